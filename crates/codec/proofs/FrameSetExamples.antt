@@ -1,0 +1,133 @@
+-- "Finding the machine", by computation.
+use mathlib.Core.Path.{_≡_, refl}
+use mathlib.Core.Bool.{Bool, true, false}
+use mathlib.Core.List.{List, [], _∷_, _++_, map}
+use Prim.Native.Nat.{ℕ}
+use Prim.Native.String.{String}
+use Rattle.octets.specs.Octets.{number}
+use Rattle.octets.specs.Lists.{within}
+use Rattle.octets.specs.Text.{hex, hexed, text, digit}
+use Rattle.codec.specs.declared.Place.{Place}
+use Rattle.codec.specs.declared.Place.the-variants.{NoSet, InSet}
+use Rattle.codec.specs.FrameSet.{uni, enni, untagged, c-tagged, s-tagged, external, cen}
+use Rattle.codec.specs.FrameSet.{source, group, typeBehind, vidOf, setOf, tagged, byTag, tagFits, placeOf, soam, pduOf}
+use Rattle.codec.specs.Request.{octet, opcodeOf, isRequest}
+
+numbers-of-port-kinds : uni ∷ enni ∷ [] ≡ 1 ∷ 2 ∷ []
+numbers-of-port-kinds = refl
+
+numbers-of-set-kinds : untagged ∷ c-tagged ∷ s-tagged ∷ [] ≡ 1 ∷ 2 ∷ 3 ∷ []
+numbers-of-set-kinds = refl
+
+numbers-of-sides : external ∷ cen ∷ [] ≡ 0 ∷ 1 ∷ []
+numbers-of-sides = refl
+
+-- a frame from the tester to the port, with these octets behind the addresses
+frame : String → List ℕ
+unfolding hex hexed text digit
+frame rest = hex "02 00 00 00 00 01 02 00 00 00 00 AA" ++ hex rest
+
+abbrev u : Place
+u = InSet (record { kind = untagged; vid = 0 }) 0
+
+abbrev c : ℕ → Place
+c vid = InSet (record { kind = c-tagged; vid = vid }) 4
+
+abbrev s : ℕ → Place
+s vid = InSet (record { kind = s-tagged; vid = vid }) 4
+
+placed : ℕ → List ℕ → Place
+unfolding placeOf byTag tagged setOf vidOf typeBehind group source within number
+placed port received = placeOf port received
+
+-- the octets behind the addresses, the frame's place at a UNI, and its place at an ENNI
+abbrev places : List (String × Place × Place)
+places =
+    -- the port's own tag, and the wrong one
+    ("81 00 00 14 08 00 45", c 20, NoSet)
+    ∷ ("88 A8 00 14 08 00 45", NoSet, s 20)
+    -- any tag beneath it is disregarded
+    ∷ ("81 00 00 14 88 A8 00 1E 08 00", c 20, NoSet)
+    ∷ ("88 A8 00 14 81 00 00 1E 08 00", NoSet, s 20)
+    -- neither tag type first
+    ∷ ("08 00 45", u, u)
+    ∷ ("91 00 00 14 08 00 45", u, u)
+    ∷ ("91 00", u, u)
+    -- 14 to 17 octets cut the tag short, 18 do not
+    ∷ ("81 00", NoSet, NoSet)
+    ∷ ("81 00 00", NoSet, NoSet)
+    ∷ ("81 00 00 14", NoSet, NoSet)
+    ∷ ("81 00 00 14 08", NoSet, NoSet)
+    ∷ ("81 00 00 14 08 00", c 20, NoSet)
+    ∷ ("88 A8 00 14 08", NoSet, NoSet)
+    ∷ ("88 A8 00 14 08 00", NoSet, s 20)
+    -- VID 0 and 4095, and those beside them
+    ∷ ("81 00 00 00 08 00", NoSet, NoSet)
+    ∷ ("81 00 00 01 08 00", c 1, NoSet)
+    ∷ ("81 00 0F FE 08 00", c 4094, NoSet)
+    ∷ ("81 00 0F FF 08 00", NoSet, NoSet)
+    ∷ ("88 A8 0F FE 08 00", NoSet, s 4094)
+    ∷ ("88 A8 0F FF 08 00", NoSet, NoSet)
+    -- the upper four bits are not the VID's
+    ∷ ("81 00 F0 14 08 00", c 20, NoSet)
+    ∷ ("81 00 F0 00 08 00", NoSet, NoSet)
+    ∷ []
+
+each-frame-has-its-place : map (λ row. (row .0, placed uni (frame (row .0)), placed enni (frame (row .0)))) places ≡ places
+unfolding placed frame
+each-frame-has-its-place = refl
+
+-- the first octet of a source address, and the place of its C-tagged frame
+abbrev sources : List (ℕ × Place)
+sources = (0x00, c 20) ∷ (0x01, NoSet) ∷ (0x80, c 20) ∷ (0xFE, c 20) ∷ (0xFF, NoSet) ∷ []
+
+group-source-has-no-set :
+    map (λ row. (row .0, placed uni (hex "02 00 00 00 00 01" ++ row .0 ∷ hex "00 00 00 00 01 81 00 00 14 08 00"))) sources ≡ sources
+unfolding placed hex hexed text digit
+group-source-has-no-set = refl
+
+-- the octets of tag, the octets behind the addresses, is the frame SOAM, and is it a request
+abbrev oam : List (ℕ × String × Bool × Bool)
+oam =
+    -- straight after the set's own tag, with opcodes 57 and 56
+    (0, "89 02 80 39", true, true)
+    ∷ (4, "81 00 00 14 89 02 80 39", true, true)
+    ∷ (4, "81 00 00 14 89 02 80 38", true, false)
+    -- a PDU of one octet or none has no opcode
+    ∷ (4, "81 00 00 14 89 02 39", true, false)
+    ∷ (4, "81 00 00 14 89 02", true, false)
+    -- another type
+    ∷ (4, "81 00 00 14 89 03 80 39", false, false)
+    -- under a second tag it is data
+    ∷ (4, "81 00 00 14 81 00 00 1E 89 02 80 39", false, false)
+    ∷ (4, "81 00 00 14 88 A8 00 1E 89 02 80 39", false, false)
+    ∷ (0, "91 00 00 14 89 02 80 39", false, false)
+    ∷ []
+
+only-straight-after-its-own-tag :
+    map (λ row. (row .0, row .1, soam (row .0) (frame (row .1)), isRequest (row .0) (frame (row .1)))) oam ≡ oam
+unfolding isRequest soam opcodeOf octet pduOf typeBehind number frame
+only-straight-after-its-own-tag = refl
+
+-- the kind of a set of VID 20, octets of tag and their number, and do they fit
+abbrev tags : List (ℕ × ℕ × ℕ × Bool)
+tags =
+    (c-tagged, 4, 0x81000014, true)
+    ∷ (s-tagged, 4, 0x88A80014, true)
+    -- priority bits may be any
+    ∷ (c-tagged, 4, 0x8100F014, true)
+    -- another VID, another type, too few octets
+    ∷ (c-tagged, 4, 0x81000015, false)
+    ∷ (c-tagged, 4, 0x88A80014, false)
+    ∷ (s-tagged, 4, 0x81000014, false)
+    ∷ (c-tagged, 0, 0x81000014, false)
+    -- no tag
+    ∷ (untagged, 0, 0, true)
+    ∷ (untagged, 4, 0x81000014, false)
+    ∷ (untagged, 0, 1, false)
+    ∷ []
+
+tag-octets-of-the-set :
+    map (λ row. (row .0, row .1, row .2, tagFits (record { kind = row .0; vid = 20 }) (row .1) (row .2))) tags ≡ tags
+unfolding tagFits vidOf
+tag-octets-of-the-set = refl

@@ -1,0 +1,4 @@
+mod FrameSetExamples
+mod RequestExamples
+mod ReplyExamples
+pub mod Short

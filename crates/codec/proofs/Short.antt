@@ -1,0 +1,158 @@
+-- A reply is short: what it copies of a good list, with the list's End, is no longer than the list.
+use mathlib.Core.Path.{_≡_, refl, sym, ap}
+use mathlib.Core.Bool.{Bool, true, false, cond, not, _||_, and-false, false≢true}
+use mathlib.Core.List.{List, [], _∷_, _++_}
+use Prim.Native.Nat.{ℕ, zero, suc, _+_, _-_, _≤_}
+use native.Mathlib.Omega.{arith}
+use lib.Dec.{leb, ltb, eqb}
+use lib.ListN.{length, take, drop, length-append, length-drop}
+use lib.Seq.{length-take-le}
+use borrow.Author.Tests.{leb-true, ltb-false, eqb-true, not-false}
+use Rattle.octets.specs.Octets.{number, octets}
+use Rattle.octets.specs.Lists.{some}
+use Rattle.codec.specs.declared.Addressed.{Addressed}
+use Rattle.codec.specs.declared.Status.{Status}
+use Rattle.codec.specs.FrameSet.{destination, group}
+use Rattle.codec.specs.Tlv.{Tlv, Parsed, ended, cut, followed, walk, parse}
+use Rattle.codec.specs.Tlv.{isTimer, badTlv, timers, badList, tlvOctets, unknown}
+use Rattle.codec.specs.Request.{versionOf, offsetOf, tlvsOf, wrongMac, wrongOffset, untimed, malformed, copiesOf}
+use Rattle.codec.specs.Reply.{header, timerTlv, carriesTimer, timerPart, replyPdu, replyFrame, looped}
+
+tlv-length : (t : Tlv) → length (tlvOctets t) ≡ 3 + length (t .value)
+unfolding tlvOctets octets
+tlv-length t = omega arith
+
+unknown-length : (t : Tlv) (ts : List Tlv) → length (unknown (t ∷ ts)) ≤ 3 + length (t .value) + length (unknown ts)
+unfolding unknown
+unknown-length t ts = go (isTimer t)
+  where
+    go : (b : Bool) → length (cond b (unknown ts) (tlvOctets t ++ unknown ts)) ≤ 3 + length (t .value) + length (unknown ts)
+    go true = omega arith
+    go false = omega (arith, tlv-length t, length-append (tlvOctets t) (unknown ts))
+
+-- what a TLV and the rest behind it are, once its two tests are known
+one : ℕ → List ℕ → Parsed → Bool → Bool → Parsed
+one kind l rest end whole =
+    cond end ended (cond whole (followed (record { kind = kind; value = take (number 2 l) (drop 2 l) }) rest) cut)
+
+-- it is short before a rest that is short enough
+one-short : (kind : ℕ) (l : List ℕ) (rest : Parsed) (end whole : Bool) → leb (2 + number 2 l) (length l) ≡ whole
+    → (rest .bad ≡ false → length (unknown (rest .tlvs)) + (2 + number 2 l + 1) ≤ length l)
+    → one kind l rest end whole .bad ≡ false
+    → length (unknown (one kind l rest end whole .tlvs)) + 1 ≤ suc (length l)
+unfolding one ended cut followed unknown
+one-short kind l rest true whole e short good = omega arith
+one-short kind l rest false true e short good =
+    let n : ℕ = number 2 l in
+    let fits : n ≤ length (drop 2 l) = omega (arith, leb-true (2 + n) (length l) e, length-drop 2 l) in
+    omega (
+      arith,
+      short good,
+      length-take-le n (drop 2 l) fits,
+      unknown-length (record { kind = kind; value = take n (drop 2 l) }) (rest .tlvs),
+    )
+one-short kind l rest false false e short good = absurd (false≢true (sym good))
+
+walk-short : (l : List ℕ) (n : ℕ) → walk n l .bad ≡ false → length (unknown (walk n l .tlvs)) + (n + 1) ≤ length l
+unfolding walk cut one
+walk-short [] n h = absurd (false≢true (sym h))
+walk-short (x ∷ l) (suc n) h = omega (arith, walk-short l n h)
+walk-short (kind ∷ l) zero h =
+    one-short kind l (walk (2 + number 2 l) l) (eqb kind 0) (leb (2 + number 2 l) (length l)) refl
+    (walk-short l (2 + number 2 l)) h
+
+pub parse-short : (l : List ℕ) → parse l .bad ≡ false → length (unknown (parse l .tlvs)) + 1 ≤ length l
+unfolding parse
+parse-short l h = walk-short l 0 h
+
+or-none : (a b : Bool) → (a || b) ≡ false → (a ≡ false) × (b ≡ false)
+or-none false b e = (refl, e)
+or-none true b e = absurd (false≢true (sym e))
+
+offset-high : (pdu : List ℕ) → wrongOffset pdu ≡ false → 8 ≤ offsetOf pdu
+unfolding wrongOffset
+offset-high pdu h = go (eqb (versionOf pdu) 0) h
+  where
+    go : (b : Bool) → cond b (not (eqb (offsetOf pdu) 8)) (ltb (offsetOf pdu) 8) ≡ false → 8 ≤ offsetOf pdu
+    go true e = omega (arith, eqb-true (offsetOf pdu) 8 (not-false (eqb (offsetOf pdu) 8) e))
+    go false e = ltb-false (offsetOf pdu) 8 e
+
+whole-list : (p : Parsed) → badList p ≡ false → p .bad ≡ false
+unfolding badList
+whole-list p h =
+    let few : Bool = leb 2 (length (timers (p .tlvs))) in
+    or-none (p .bad) (some badTlv (p .tlvs)) (or-none (p .bad || some badTlv (p .tlvs)) few h .0) .0
+
+-- what a reply copies of a well-formed request leaves 13 of its octets: the header and the End
+pub copies-short : (whom : Addressed) (to : ℕ) (pdu : List ℕ) → malformed whom to pdu ≡ false
+    → length (copiesOf pdu) + 13 ≤ length pdu
+unfolding malformed copiesOf tlvsOf
+copies-short whom to pdu h =
+    let a : Bool = wrongMac whom to pdu in
+    let b : Bool = wrongOffset pdu in
+    let c : Bool = badList (tlvsOf pdu) in
+    let abc : (a || b || c) ≡ false = or-none (a || b || c) (untimed pdu) h .0 in
+    let far : 8 ≤ offsetOf pdu = offset-high pdu (or-none a b (or-none (a || b) c abc .0) .1) in
+    let whole : tlvsOf pdu .bad ≡ false = whole-list (tlvsOf pdu) (or-none (a || b) c abc .1) in
+    omega (arith, parse-short (drop (4 + offsetOf pdu) pdu) whole, far, length-drop (4 + offsetOf pdu) pdu)
+
+timer-short : (kind code seconds : ℕ) → length (timerPart kind code seconds) ≤ 8
+unfolding timerPart timerTlv octets
+timer-short kind code seconds = go (carriesTimer kind code)
+  where
+    go : (b : Bool) → length (cond b (timerTlv seconds) []) ≤ 8
+    go true = omega arith
+    go false = omega arith
+
+no-timer : (kind seconds : ℕ) → timerPart kind 1 seconds ≡ []
+unfolding timerPart carriesTimer
+no-timer kind seconds = rw (and-false (eqb kind 1 || eqb kind 3))
+
+pub pdu-length : (level kind code port : ℕ) (status : Status) (copies : List ℕ)
+    → length (replyPdu level kind code port status copies) ≡ 13 + length (timerPart kind code (status .seconds)) + length copies
+unfolding replyPdu header octets
+pdu-length level kind code port status copies = simp length-append (omega arith)
+
+pub frame-length : (requester from : ℕ) (tag pdu : List ℕ)
+    → length (replyFrame requester from tag pdu) ≡ 14 + length tag + length pdu
+unfolding replyFrame octets
+frame-length requester from tag pdu = simp length-append (omega arith)
+
+module _ (requester from level kind port : ℕ) (tag : List ℕ) (status : Status) where
+  -- the reply to a well-formed request is at most eight octets longer than the request, n being the length of its PDU
+  pub reply-short : (code : ℕ) (copies : List ℕ) (n : ℕ) → length copies + 13 ≤ n
+      → length (replyFrame requester from tag (replyPdu level kind code port status copies)) ≤ 14 + length tag + n + 8
+  reply-short code copies n h =
+      omega (
+        arith,
+        frame-length requester from tag (replyPdu level kind code port status copies),
+        pdu-length level kind code port status copies,
+        timer-short kind code (status .seconds),
+        h,
+      )
+
+  -- that to a malformed one has 13 octets of PDU
+  pub malformed-reply-short : length (replyFrame requester from tag (replyPdu level kind 1 port status [])) ≡ 27 + length tag
+  malformed-reply-short =
+      omega (
+        arith,
+        frame-length requester from tag (replyPdu level kind 1 port status []),
+        pdu-length level kind 1 port status [],
+        ap (λ (l : List ℕ). length l) (no-timer kind (status .seconds)),
+      )
+
+-- a looped frame is as long as it was
+pub looped-length : (port : ℕ) (frame : List ℕ) → 12 ≤ length frame → length (looped port frame) ≡ length frame
+unfolding looped octets
+looped-length port frame h = go (group (destination frame))
+  where
+    start : length (take 6 (drop 6 frame)) ≡ 6
+    start = length-take-le 6 (drop 6 frame) (omega (arith, length-drop 6 frame))
+
+    rest : length (drop 12 frame) ≡ length frame - 12
+    rest = length-drop 12 frame
+
+    go : (b : Bool)
+        → length (take 6 (drop 6 frame) ++ cond b (octets 6 port) (take 6 frame) ++ drop 12 frame) ≡ length frame
+    go true = simp length-append (omega (arith, start, rest))
+    go false = simp length-append (omega (arith, start, rest, length-take-le 6 frame (omega arith)))

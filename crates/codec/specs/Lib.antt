@@ -1,0 +1,4 @@
+pub mod FrameSet
+pub mod Tlv
+pub mod Request
+pub mod Reply

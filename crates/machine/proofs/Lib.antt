@@ -1,0 +1,3 @@
+mod TableExamples
+mod MachineExamples
+mod TimeExamples

@@ -1,0 +1,41 @@
+// The machine layer: the table of twenty-four entries, one session's step, time. By value only.
+
+// A session of a flow and a source address. The tag is the number of its octets, of which there are `count`. A session is open
+// while `notice` is 0; closed, it is owed a notice with that code and has no time left.
+pub struct Session {
+    pub flow: u8,
+    pub source: u64,
+    pub level: u8,
+    pub side: u8,
+    pub count: u8,
+    pub tag: u64,
+    pub left: u32,
+    pub notice: u8,
+}
+
+// The machine of one port, frame set and source address on an allowed flow.
+pub enum Machine {
+    Inactive,
+    Active(Session),
+}
+
+// What becomes of a session by a request.
+pub enum Change {
+    Same,
+    Opened(Session),
+    Restarted(Session),
+    Closed,
+}
+
+// The answer to a request: its response code, and what becomes of the session.
+pub struct Decided {
+    pub code: u8,
+    pub change: Change,
+}
+
+// What becomes of a data frame.
+pub enum Fate {
+    Forward,
+    Drop,
+    Loop,
+}

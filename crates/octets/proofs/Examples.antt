@@ -1,0 +1,50 @@
+-- Small examples of the definitions, by computation.
+use mathlib.Core.Path.{_≡_, refl}
+use mathlib.Core.Bool.{true, false}
+use mathlib.Core.List.{[], _∷_}
+use Rattle.octets.specs.Octets.{number, octets, over, same}
+use Rattle.octets.specs.Lists.{some, ascends, put, without, distinct}
+use Rattle.octets.specs.Text.{text, digit, hexed, hex}
+
+in-network-order : number 4 (1 ∷ 2 ∷ 3 ∷ 4 ∷ 5 ∷ []) ≡ 0x01020304
+unfolding number
+in-network-order = refl
+
+and-back : octets 6 0x0200000000aa ≡ hex "02 00 00 00 00 AA"
+unfolding octets hex hexed text digit
+and-back = refl
+
+cut-short : number 2 (0x81 ∷ []) ≡ 0x8100
+unfolding number
+cut-short = refl
+
+written-over : over (1 ∷ 2 ∷ []) (7 ∷ 8 ∷ 9 ∷ []) ≡ 1 ∷ 2 ∷ 9 ∷ []
+written-over = refl
+
+same-octets : same (hex "81 00") (0x81 ∷ 0 ∷ []) ≡ true
+unfolding same hex hexed text digit
+same-octets = refl
+
+longer-is-other : same (0x81 ∷ 0 ∷ []) (0x81 ∷ 0 ∷ 0 ∷ []) ≡ false
+unfolding same
+longer-is-other = refl
+
+kept-in-order : put (λ x. x) 5 (2 ∷ 7 ∷ []) ≡ 2 ∷ 5 ∷ 7 ∷ []
+unfolding put
+kept-in-order = refl
+
+put-in-place : put (λ x. x) 7 (2 ∷ 7 ∷ []) ≡ 2 ∷ 7 ∷ []
+unfolding put
+put-in-place = refl
+
+taken-out : without (λ x. x) 7 (2 ∷ 7 ∷ []) ≡ 2 ∷ []
+unfolding without
+taken-out = refl
+
+equal-keys-do-not-ascend : ascends (λ x. x) 0 (2 ∷ 2 ∷ []) ≡ false
+unfolding ascends
+equal-keys-do-not-ascend = refl
+
+twice-there : distinct (1 ∷ 2 ∷ 1 ∷ []) ≡ false
+unfolding distinct some
+twice-there = refl

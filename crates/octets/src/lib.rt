@@ -1,0 +1,1 @@
+// Numbers in network order, and runs of octets. Knows no protocol.

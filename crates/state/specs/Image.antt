@@ -1,0 +1,113 @@
+-- The image of a state, octet by octet as docs/LAYOUT.md has it, and the state that octets are read as.
+use mathlib.Core.List.{List, [], _∷_, _++_, map}
+use mathlib.Core.Bool.{Bool, true, false, cond, _&&_}
+use Prim.Native.Nat.{ℕ, zero, suc, _+_, _-_, _/_, _%_, _^_}
+use lib.ListN.{length, getD, take, drop, replicate}
+use lib.Dec.{eqb}
+use Rattle.octets.specs.Octets.{number, octets, same}
+use Rattle.machine.specs.declared.Session.{Session}
+use Rattle.machine.specs.Machine.{keyOf}
+use Rattle.plan.specs.declared.Port.{Port}
+use Rattle.plan.specs.declared.Flow.{Flow}
+use Rattle.state.specs.State.{State, valid}
+
+unfoldable pub zeros : ℕ → List ℕ
+zeros n = replicate n 0
+
+-- a port in 16 octets, a flow in 32, a session in 32; the first eight octets are not all zero
+unfoldable pub portRow : Port → List ℕ
+portRow p = p .number ∷ p .kind ∷ octets 6 (p .address) ++ zeros 8
+
+unfoldable pub flowRow : Flow → List ℕ
+flowRow f = f .port ∷ f .kind ∷ octets 2 (f .vid) ++ (0 ∷ 0 ∷ f .number ∷ 0 ∷ f .mps) ++ zeros 16
+
+unfoldable pub sessionRow : Session → List ℕ
+sessionRow x =
+    octets 8 (keyOf x)
+    ++ octets 4 (x .left)
+    ++ (x .notice ∷ x .level ∷ x .side ∷ x .count ∷ octets 8 (x .tag))
+    ++ zeros 8
+
+module _ {A : Type 0} where
+  unfoldable pub rows : (A → List ℕ) → List A → List ℕ
+  rows row [] = []
+  rows row (x ∷ xs) = row x ++ rows row xs
+
+  -- rows in n octets, the rest zero
+  unfoldable pub table : ℕ → (A → List ℕ) → List A → List ℕ
+  table n row xs = rows row xs ++ zeros (n - length (rows row xs))
+
+  -- the rows read from a table of at most n, each of so many octets, up to an empty one
+  unfoldable pub rowsIn : ℕ → ℕ → (List ℕ → A) → List ℕ → List A
+  rowsIn zero width read l = []
+  rowsIn (suc n) width read l = cond (eqb (number 8 l) 0) [] (read l ∷ rowsIn n width read (drop width l))
+
+-- where a flow's row stands in the table, from 1, or 0 if the number has no flow
+unfoldable pub placeFrom : ℕ → ℕ → List Flow → ℕ
+placeFrom n place [] = 0
+placeFrom n place (f ∷ fs) = cond (eqb (f .number) n) place (placeFrom n (place + 1) fs)
+
+-- the places of so many flow numbers, from n on
+unfoldable pub places : ℕ → ℕ → List Flow → List ℕ
+places zero n fs = []
+places (suc more) n fs = placeFrom n 1 fs ∷ places more (n + 1) fs
+
+unfoldable pub bit : Bool → ℕ
+bit true = 1
+bit false = 0
+
+-- the head: 1,536 octets
+unfoldable pub head : State → List ℕ
+head s =
+    octets 4 (s .clock)
+    ++ zeros 28
+    ++ map bit (s .allowed)
+    ++ places 32 1 (s .plan .flows)
+    ++ zeros 32
+    ++ table 128 portRow (s .plan .ports)
+    ++ table 1024 flowRow (s .plan .flows)
+    ++ zeros 256
+
+-- One state has one image, of 4,096 octets.
+unfoldable pub image : State → List ℕ
+image s = head s ++ table 2560 sessionRow (s .sessions)
+
+unfoldable pub portIn : List ℕ → Port
+portIn l = record { number = getD l 0 0; kind = getD l 1 0; address = number 6 (drop 2 l) }
+
+unfoldable pub flowIn : List ℕ → Flow
+flowIn l =
+    record {
+      number = getD l 6 0;
+      port = getD l 0 0;
+      kind = getD l 1 0;
+      vid = number 2 (drop 2 l);
+      mps = take 8 (drop 8 l);
+    }
+
+unfoldable pub sessionIn : List ℕ → Session
+sessionIn l =
+    record {
+      flow = number 8 l / 2 ^ 48;
+      source = number 8 l % 2 ^ 48;
+      level = getD l 13 0;
+      side = getD l 14 0;
+      count = getD l 15 0;
+      tag = number 8 (drop 16 l);
+      left = number 4 (drop 8 l);
+      notice = getD l 12 0;
+    }
+
+-- what octets are read as, whatever they are
+unfoldable pub stateOf : List ℕ → State
+stateOf l =
+    record {
+      plan = record { ports = rowsIn 8 16 portIn (drop 128 l); flows = rowsIn 32 32 flowIn (drop 256 l) };
+      clock = number 4 l;
+      allowed = map (eqb 1) (take 32 (drop 32 l));
+      sessions = rowsIn 16 32 sessionIn (drop 1536 l);
+    }
+
+-- Octets are a valid state's image when they are the image of the state that they are read as, and that state is valid.
+unfoldable pub okImage : List ℕ → Bool
+okImage l = valid (stateOf l) && same (image (stateOf l)) l

@@ -1,0 +1,1 @@
+// The state, its one image, and its validity.

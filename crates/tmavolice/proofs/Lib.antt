@@ -1,0 +1,5 @@
+mod Further
+mod Mps
+pub mod BenchTable
+pub mod Fits
+pub mod Alone

@@ -1,0 +1,5 @@
+pub mod Answer
+pub mod Frame
+pub mod Notice
+pub mod Calls
+pub mod Bench
