@@ -1,3 +1,5 @@
 mod TableExamples
 mod MachineExamples
 mod TimeExamples
+pub mod Laws
+pub mod Entries

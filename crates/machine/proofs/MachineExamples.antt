@@ -15,8 +15,8 @@ use Rattle.machine.specs.declared.Decided.{Decided}
 use Rattle.machine.specs.declared.Fate.{Fate}
 use Rattle.machine.specs.declared.Fate.the-variants.{Forward, Drop, Loop}
 use Rattle.machine.specs.Table.{Event, rqst-activate, rqst-deactivate, rqst-state, actionOf}
-use Rattle.machine.specs.Machine.{conditionOf, key, lasting, goodSeconds, answered, admitted, sameMp, restarted, closed}
-use Rattle.machine.specs.Machine.{decided, after, turned, fateOf, dataEvent}
+use Rattle.machine.specs.Machine.{activity, conditionOf, key, lasting, goodSeconds, answered, admitted, sameMp, restarted, refreshed, closed}
+use Rattle.machine.specs.Machine.{decided, after, passes, turned, fateOf, dataEvent}
 
 -- a session at the MP of a level and side, opened by a frame with this tag
 abbrev session : ℕ → ℕ → ℕ → ℕ → Session
@@ -47,7 +47,7 @@ abbrev answer : ℕ → Change → Decided
 answer code change = record { code = code; change = change }
 
 decides : Machine → Event → ℕ → ℕ → ℕ → ℕ → Decided
-unfolding decided admitted restarted closed answered sameMp goodSeconds lasting within conditionOf actionOf
+unfolding decided admitted restarted refreshed closed answered sameMp goodSeconds lasting within conditionOf activity actionOf
 decides m event seconds room level side =
     decided (actionOf (conditionOf true m) event) room seconds (session now level side 0) m
 
@@ -104,7 +104,7 @@ unfolding after
 machine-after-each-change = refl
 
 fate : Bool → Machine → Bool → ℕ → ℕ → Fate
-unfolding fateOf turned dataEvent conditionOf actionOf levelOf octet
+unfolding activity fateOf turned passes dataEvent conditionOf actionOf levelOf octet
 fate allowed m soam level side = fateOf (actionOf (conditionOf allowed m) (dataEvent side)) soam level side m
 
 -- is the flow allowed, the machine; is the frame SOAM, its level, its side; its fate

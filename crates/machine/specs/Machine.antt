@@ -16,10 +16,14 @@ use Rattle.machine.specs.declared.Fate.the-variants.{Forward, Drop, Loop
 use Rattle.machine.specs.Table.{Condition, prohibited, inactive, active, Event, ingress-data, egress-data, mgmt-prohibit}
 use Rattle.machine.specs.Table.{actionOf, turn, admit, already, restart, close, lift, forbid, withdraw, expire}
 
--- the state of the machine of a flow that is allowed or not
+-- the state of a machine, if its flow is allowed
+unfoldable pub activity : Machine → Condition
+activity Inactive = inactive
+activity (Active s) = active
+
+-- and whether it is allowed or not
 unfoldable pub conditionOf : Bool → Machine → Condition
-conditionOf allowed Inactive = cond allowed inactive prohibited
-conditionOf allowed (Active s) = cond allowed active prohibited
+conditionOf allowed m = cond allowed (activity m) prohibited
 
 unfoldable pub isOpen : Session → Bool
 isOpen s = eqb (s .notice) 0
@@ -78,14 +82,17 @@ admitted room seconds new =
 unfoldable pub sameMp : Session → Session → Bool
 sameMp new s = eqb (new .level) (s .level) && eqb (new .side) (s .side)
 
--- Activate, active: at another MP 7, the seconds not looked at; seconds bad, 6; else restart, 4, when only the time changes. (The
--- table asks for this of an active machine alone.)
-unfoldable pub restarted : ℕ → Session → Machine → Decided
-restarted seconds new Inactive = answered 7
-restarted seconds new (Active s) =
+-- Activate, active: at another MP 7, the seconds not looked at; seconds bad, 6; else restart, 4, when only the time changes.
+unfoldable pub refreshed : ℕ → Session → Session → Decided
+refreshed seconds new s =
     cond (sameMp new s)
     (cond (goodSeconds seconds) (record { code = 4; change = Restarted (lasting (seconds * 1000) s) }) (answered 6))
     (answered 7)
+
+-- The table asks for this, and for a close, of an active machine alone.
+unfoldable pub restarted : ℕ → Session → Machine → Decided
+restarted seconds new Inactive = answered 7
+restarted seconds new (Active s) = refreshed seconds new s
 
 -- Deactivate, active: at another MP 7; else close, 0.
 unfoldable pub closed : Session → Machine → Decided
@@ -108,11 +115,15 @@ after (Opened s) m = Active s
 after (Restarted s) m = Active s
 after Closed m = Inactive
 
--- Active: SOAM of the session's level or below, forward; otherwise loop from the activating side, drop from the other.
+-- SOAM of the session's level or below
+unfoldable pub passes : Bool → ℕ → Session → Bool
+passes soam level s = soam && leb level (s .level)
+
+-- Active: that, forward; otherwise loop from the activating side, drop from the other.
 unfoldable pub turned : Bool → ℕ → ℕ → Machine → Fate
 turned soam level side Inactive = Forward
 turned soam level side (Active s) =
-    cond (soam && leb level (s .level)) Forward (cond (eqb side (s .side)) Loop Drop)
+    cond (passes soam level s) Forward (cond (eqb side (s .side)) Loop Drop)
 
 -- What a data frame's action does.
 unfoldable pub fateOf : ℕ → Bool → ℕ → ℕ → Machine → Fate

@@ -1,5 +1,7 @@
 -- MEF 46 7.1.5: the eight events in the three states, and the action of each of the twenty-four entries.
+use mathlib.Core.Bool.{cond}
 use Prim.Native.Nat.{ℕ}
+use lib.Dec.{eqb}
 
 -- the three states
 pub data Condition : Type 0 where
@@ -24,6 +26,19 @@ eventNumber egress-data = 4
 eventNumber mgmt-allow = 5
 eventNumber mgmt-prohibit = 6
 eventNumber timer-expiration = 7
+
+-- and back
+unfoldable pub conditionAt : ℕ → Condition
+conditionAt n = cond (eqb n 0) prohibited (cond (eqb n 1) inactive active)
+
+unfoldable pub eventAt : ℕ → Event
+eventAt n =
+    cond (eqb n 0) rqst-activate
+    (cond (eqb n 1) rqst-deactivate
+    (cond (eqb n 2) rqst-state
+    (cond (eqb n 3) ingress-data
+    (cond (eqb n 4) egress-data
+    (cond (eqb n 5) mgmt-allow (cond (eqb n 6) mgmt-prohibit timer-expiration))))))
 
 -- the numbers of the actions: no action, or an event that cannot occur
 abbrev pub nothing : ℕ
@@ -99,3 +114,7 @@ actionOf active egress-data = turn
 actionOf active mgmt-allow = nothing
 actionOf active mgmt-prohibit = withdraw
 actionOf active timer-expiration = expire
+
+-- the entry at a row and a column
+unfoldable pub actionAt : ℕ → ℕ → ℕ
+actionAt condition event = actionOf (conditionAt condition) (eventAt event)

@@ -1,4 +1,25 @@
 // The machine layer: the table of twenty-four entries, one session's step, time. By value only.
+mod request;
+mod running;
+mod table;
+mod time;
+mod traffic;
+
+pub use request::after;
+pub use request::decide;
+pub use running::lasting;
+pub use running::owed;
+pub use running::seconds_left;
+pub use running::status_of;
+pub use running::withdrawn;
+pub use table::action;
+pub use table::allowed_after;
+pub use table::condition_of;
+pub use time::elapsed;
+pub use time::jumped;
+pub use time::ticked;
+pub use traffic::data_event;
+pub use traffic::fate_of;
 
 // A session of a flow and a source address. The tag is the number of its octets, of which there are `count`. A session is open
 // while `notice` is 0; closed, it is owed a notice with that code and has no time left.

@@ -2,7 +2,7 @@
 use mathlib.Core.Path.{_≡_, refl}
 use mathlib.Core.Bool.{true, false}
 use mathlib.Core.List.{[], _∷_}
-use Rattle.octets.specs.Octets.{number, octets, over, same}
+use Rattle.octets.specs.Octets.{number, octets, over, splice, movedUp, movedDown, allZero, same}
 use Rattle.octets.specs.Lists.{some, ascends, put, without, distinct}
 use Rattle.octets.specs.Text.{text, digit, hexed, hex}
 
@@ -20,6 +20,29 @@ cut-short = refl
 
 written-over : over (1 ∷ 2 ∷ []) (7 ∷ 8 ∷ 9 ∷ []) ≡ 1 ∷ 2 ∷ 9 ∷ []
 written-over = refl
+
+written-at-a-place : splice 1 (8 ∷ 9 ∷ []) (0 ∷ 1 ∷ 2 ∷ 3 ∷ []) ≡ 0 ∷ 8 ∷ 9 ∷ 3 ∷ []
+written-at-a-place = refl
+
+up-by-two : movedUp 2 1 4 (0 ∷ 1 ∷ 2 ∷ 3 ∷ 4 ∷ 5 ∷ 6 ∷ []) ≡ 0 ∷ 1 ∷ 2 ∷ 1 ∷ 2 ∷ 3 ∷ 6 ∷ []
+unfolding movedUp
+up-by-two = refl
+
+down-by-two : movedDown 2 3 6 (0 ∷ 1 ∷ 2 ∷ 3 ∷ 4 ∷ 5 ∷ 6 ∷ []) ≡ 0 ∷ 3 ∷ 4 ∷ 5 ∷ 4 ∷ 5 ∷ 6 ∷ []
+unfolding movedDown
+down-by-two = refl
+
+none-moved : movedUp 2 3 3 (0 ∷ 1 ∷ 2 ∷ 3 ∷ 4 ∷ 5 ∷ []) ≡ 0 ∷ 1 ∷ 2 ∷ 3 ∷ 4 ∷ 5 ∷ []
+unfolding movedUp
+none-moved = refl
+
+zeros-only : allZero (0 ∷ 0 ∷ 0 ∷ []) ≡ true
+unfolding allZero
+zeros-only = refl
+
+last-not-zero : allZero (0 ∷ 0 ∷ 1 ∷ []) ≡ false
+unfolding allZero
+last-not-zero = refl
 
 same-octets : same (hex "81 00") (0x81 ∷ 0 ∷ []) ≡ true
 unfolding same hex hexed text digit

@@ -1,10 +1,34 @@
--- Laws of octets that other rooms cite.
+-- Laws of numbers in network order: one over the width, for each way to use it.
 use mathlib.Core.Path.{_≡_, refl, ap}
-use Prim.Native.Nat.{ℕ, suc, zero}
-use lib.ListN.{length}
-use Rattle.octets.specs.Octets.{octets}
+use mathlib.Core.List.{List, [], _∷_}
+use Prim.Native.Nat.{ℕ, suc, zero, _+_, _*_, _^_}
+use native.Mathlib.Nat.{add-zero, zero-add, suc-add, add-assoc, add-mul, mul-assoc, mul-one, zero-mul}
+use lib.ListN.{length, getD, drop}
+use lib.Pow.{pow-add}
+use lib.Seq.{getD-drop, drop-drop, drop-nil}
+use Rattle.octets.specs.Octets.{number, octets}
 
 pub octets-length : (n x : ℕ) → length (octets n x) ≡ n
 unfolding octets
 octets-length zero x = refl
 octets-length (suc n) x = ap suc (octets-length n x)
+
+drop-more : (m : ℕ) (l : List ℕ) → drop m (drop 1 l) ≡ drop (suc m) l
+drop-more m [] = drop-nil m
+drop-more m (x ∷ l) = refl
+
+-- a number of m octets and n more
+number-join : (m n : ℕ) (l : List ℕ) → number (m + n) l ≡ number m l * 256 ^ n + number n (drop m l)
+unfolding number
+number-join zero n l = rw (zero-add, zero-mul, zero-add)
+number-join (suc m) n l =
+    rw (suc-add, number-join m n (drop 1 l), drop-more, pow-add, add-mul, mul-assoc, add-assoc)
+
+-- a number read in two parts at a place
+pub number-parts : (m n at : ℕ) (l : List ℕ) {a b : ℕ} → a ≡ number m (drop at l) → b ≡ number n (drop (at + m) l)
+    → a * 256 ^ n + b ≡ number (m + n) (drop at l)
+number-parts m n at l ea eb = rw (ea, eb, number-join, drop-drop)
+
+pub number-1 : (at : ℕ) (l : List ℕ) → getD l at 0 ≡ number 1 (drop at l)
+unfolding number
+number-1 at l = simp (getD-drop, add-zero, mul-one)

@@ -1,2 +1,8 @@
+pub mod Cases
 pub mod Laws
+pub mod Round
+pub mod Over
+pub mod Same
+pub mod Zero
+pub mod Moving
 mod Examples

@@ -87,6 +87,7 @@ texts =
     -- the last line is not ended by LF: a fault behind good lines, and only there
     ∷ (tabbed "port 1 uni 020000000001", 1, 1)
     ∷ (lines bench ++ tabbed "mp 1 up 5", 5, 1)
+    ∷ (lines bench ++ tabbed "mp 1 up 8", 5, 1)
     ∷ (lines ("port 9 uni 020000000001" ∷ []) ++ tabbed "mp 1 up 5", 1, 2)
     -- names come before use
     ∷ (lines ("flow 1 1 c 20" ∷ "port 1 uni 020000000001" ∷ []), 1, 3)

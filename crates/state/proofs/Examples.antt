@@ -91,6 +91,9 @@ goodStates =
     ∷ unit (many 16 1)
     -- no call leaves both codes at once
     ∷ unit (session 1 0x0200000000aa 4 cen 4 0x81000014 0 8 ∷ session 2 0x0200000000aa 4 external 4 0x8100001e 0 9 ∷ [])
+    -- notices on two prohibited flows
+    ∷ state yard 0 (3 ∷ 4 ∷ [])
+    (session 1 0x0200000000aa 4 cen 4 0x81000014 0 9 ∷ session 2 0x0200000000aa 4 external 4 0x8100001e 0 9 ∷ [])
     ∷ []
 
 valid-states : every valid goodStates ≡ true

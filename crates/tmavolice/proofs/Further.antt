@@ -40,10 +40,13 @@ refusals =
     ∷ case due (notice (replicate 2007 0)) (Refused 3) (replicate 2007 0)
     -- 4, also where the frame would only be forwarded, for a tick of 0 ms, and ahead of 5 and 6
     ∷ case due (blankFrame 14) (Refused 4) room
+    ∷ case due otherVlan (Refused 4) room
+    ∷ case due (frame 1 cen (hex "02 00 00 00 00 01 03 00 00 00 00 AA 81 00 00 14 08 00") room) (Refused 4) room
     ∷ case due (tick 60000) (Refused 4) []
     ∷ case due (tick 4000000000) (Refused 4) []
     ∷ case due (allow 1) (Refused 4) []
     ∷ case due (prohibit 33) (Refused 4) []
+    ∷ case due (allow 33) (Refused 4) []
     -- 5: 2^31 - 1 yes, a clock set back no
     ∷ case start (tick 2147483647) Done []
     ∷ case (start ++ (tick 1 ∷ [])) (tick 0) (Refused 5) []
@@ -61,6 +64,11 @@ refusals =
     -- restart and make are not refused
     ∷ case due (restart 7) Done []
     ∷ case due (make benchPlan 0) Done []
+    -- a state made anew has no sessions, no notices and no flow allowed
+    ∷ case (due ++ (make benchPlan 0 ∷ [])) (notice room) (Refused 7) room
+    ∷ case (opened ++ (make benchPlan 0 ∷ [])) activate60 Dropped room
+    ∷ case (opened ++ (make benchPlan 0 ∷ allow 1 ∷ [])) stateRequest (Replied 39)
+    (written (toTester "80 38 00 08 03 00 02 00 00 00 00 01 25 00 05 01 00 00 00 00 00"))
     -- a fault leaves the old state
     ∷ case due (make (text "port\t9\n") 0) (Faulty 1 1) []
     ∷ case (due ++ (make (text "port\t9\n") 0 ∷ [])) (tick 60000) (Refused 4) []
@@ -108,8 +116,17 @@ requests =
     ∷ case start (asks "80 39 00 08 03 00 02 00 00 00 00 01 09 00 01 FF") (Replied 31)
     (written (toTester "80 38 00 08 03 01 02 00 00 00 00 01 00"))
     -- a refused refresh: the old session's seconds, and nothing changes
-    ∷ case (opened ++ (tick 1 ∷ [])) (asks "80 39 00 08 01 00 02 00 00 00 00 01 25 00 05 01 00 00 00 00 00") (Replied 39)
-    (written (toTester "80 38 01 08 01 06 02 00 00 00 00 01 25 00 05 01 00 00 00 3C 00"))
+    ∷ case (opened ++ (tick 30000 ∷ [])) (asks "80 39 00 08 01 00 02 00 00 00 00 01 25 00 05 01 00 00 00 00 00") (Replied 39)
+    (written (toTester "80 38 01 08 01 06 02 00 00 00 00 01 25 00 05 01 00 00 00 1E 00"))
+    -- an Activate without a timer is malformed in a full table too
+    ∷ case (start ++ sessions 16) (asks "80 39 00 08 01 00 02 00 00 00 00 01 00") (Replied 31)
+    (written (toTester "80 38 00 08 01 01 02 00 00 00 00 01 00"))
+    -- padding behind the End is nothing
+    ∷ case start (asks "80 39 00 08 01 00 02 00 00 00 00 01 25 00 05 01 00 00 00 3C 00 00 00") (Replied 39)
+    (written (toTester "80 38 01 08 01 00 02 00 00 00 00 01 25 00 05 01 00 00 00 3C 00"))
+    -- a State request's timer is ignored: not copied, not counted, no restart
+    ∷ case opened (asks "80 39 00 08 03 00 02 00 00 00 00 01 25 00 05 01 00 00 00 05 00") (Replied 39)
+    (written (toTester "80 38 01 08 03 00 02 00 00 00 00 01 25 00 05 01 00 00 00 3C 00"))
     -- a reserved type: code 10, status bits 0, unknown TLVs copied, no timer
     ∷ case opened (asks "80 39 00 08 09 00 02 00 00 00 00 01 1F 00 02 AB CD 00") (Replied 36)
     (written (toTester "80 38 04 08 09 0A 02 00 00 00 00 01 1F 00 02 AB CD 00"))
@@ -118,6 +135,7 @@ requests =
     ∷ case start (asks "80") Forwarded room
     -- prohibited: no reply
     ∷ case (make benchPlan 0 ∷ []) activate60 Dropped room
+    ∷ case (make benchPlan 0 ∷ []) (asks "80 39") Dropped room
     -- a group source has no set, even with a request
     ∷ case start
     (frame 1 cen (hex "02 00 00 00 00 01 03 00 00 00 00 AA 81 00 00 14 89 02 80 39 00 08 03 00 02 00 00 00 00 01 00") room)

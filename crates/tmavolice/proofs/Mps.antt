@@ -34,6 +34,13 @@ atMip side =
     (hex "02 00 00 00 00 01 02 00 00 00 00 AA 81 00 00 14 89 02 C0 39 00 08 01 00 02 00 00 00 00 01 25 00 05 01 00 00 00 3C 00")
     room
 
+-- and at the ENNI's, from the External Network
+unfoldable pub atEnni : Call
+atEnni =
+    frame 2 external
+    (hex "02 00 00 00 00 02 02 00 00 00 00 AA 88 A8 00 14 89 02 60 39 00 08 01 00 02 00 00 00 00 02 25 00 05 01 00 00 00 3C 00")
+    room
+
 -- a State request to a group of MPs: the last octet of its address, a side, and the PDU
 unfoldable pub toGroup : String → ℕ → String → Call
 toGroup last side pdu =
@@ -99,7 +106,12 @@ groups =
     (written (toTester "C0 38 00 08 03 00 02 00 00 00 00 01 25 00 05 01 00 00 00 00 00"))
     ∷ case mps (toGroup "3E" cen "C0 39 00 08 03 00 00 00 00 00 00 00") (RepliedForwarded 31)
     (written (toTester "C0 38 00 08 03 01 02 00 00 00 00 01 00"))
-    -- prohibited: a MIP forwards it, a MEP drops it
+    -- so too where it would reach a session of a lower level
+    ∷ case (mps ++ (activate60 ∷ [])) (toGroup "3E" cen "C0 39 00 08 03 00 00 00 00 00 00 00 00") (RepliedForwarded 39)
+    (written (toTester "C0 38 01 08 03 00 02 00 00 00 00 01 25 00 05 01 00 00 00 3C 00"))
+    -- prohibited: a MIP forwards it, malformed or not, and drops a unicast one; a MEP drops it
+    ∷ case (make mpPlan 0 ∷ []) (toGroup "3E" cen "C0 39 00 08 03 00 00 00 00 00 00 00") Forwarded room
+    ∷ case (make mpPlan 0 ∷ []) (atMip cen) Dropped room
     ∷ case (make mpPlan 0 ∷ []) (toGroup "3E" cen "C0 39 00 08 03 00 00 00 00 00 00 00 00") Forwarded room
     ∷ case (make mpPlan 0 ∷ []) (toGroup "3C" cen "80 39 00 08 03 00 00 00 00 00 00 00 00") Dropped room
     -- under 12 octets, of another type, or to another level's group it is data
@@ -112,6 +124,15 @@ groups =
     ∷ case (mps ++ (withPriority 0xAB ∷ withPriority 0xAA ∷ prohibit 1 ∷ notice room ∷ [])) (notice room) (Noticed 1 1 31)
     (written (hex "02 00 00 00 00 AB 02 00 00 00 00 01 81 00 60 14 89 02 80 38 00 08 02 09 02 00 00 00 00 01 00"))
     ∷ case (mps ++ (activate60 ∷ prohibit 1 ∷ notice room ∷ [])) activate60 Dropped room
+    -- a session opened anew has the tag of the Activate that opened it
+    ∷ case (mps ++ (withPriority 0xAA ∷ asks "80 39 00 08 02 00 02 00 00 00 00 01 00" ∷ activate60 ∷ prohibit 1 ∷ [])) (notice room)
+    (Noticed 1 1 31)
+    (written (toTester "80 38 00 08 02 09 02 00 00 00 00 01 00"))
+    -- the port and the side are the session's
+    ∷ case (mps ++ (atMip external ∷ tick 60000 ∷ [])) (notice room) (Noticed 1 0 31)
+    (written (toTester "C0 38 00 08 02 08 02 00 00 00 00 01 00"))
+    ∷ case (mps ++ (atEnni ∷ tick 60000 ∷ [])) (notice room) (Noticed 2 0 31)
+    (written (hex "02 00 00 00 00 AA 02 00 00 00 00 02 88 A8 00 14 89 02 60 38 00 08 02 08 02 00 00 00 00 02 00"))
     -- prohibit touches its own flow alone
     ∷ case (mps ++ (activate60 ∷ prohibit 2 ∷ [])) activate60 (Replied 39)
     (written (toTester "80 38 01 08 01 04 02 00 00 00 00 01 25 00 05 01 00 00 00 3C 00"))
@@ -137,6 +158,7 @@ entries =
     ∷ entry (set (imageOf start) 4095 1) (restart 0) (8 * 2 ^ 8) (set (imageOf start) 4095 1)
     -- making looks at the length alone, and a fault changes no octet
     ∷ entry (replicate 4096 7) (make benchPlan 0) 6 (imageOf (make benchPlan 0 ∷ []))
+    ∷ entry (imageOf (start ++ (activate60 ∷ []))) (make benchPlan 0) 6 (imageOf (make benchPlan 0 ∷ []))
     ∷ entry (replicate 4096 7) (make (text "mp\n") 0) (7 + 1 * 2 ^ 8 + 1 * 2 ^ 32) (replicate 4096 7)
     -- other refusals leave the image, other calls leave their state's
     ∷ entry (imageOf start) (tick 4000000000) (5 * 2 ^ 8) (imageOf start)

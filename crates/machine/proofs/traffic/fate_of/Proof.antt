@@ -1,0 +1,19 @@
+use Rattle.machine.specs.Machine.{fateOf}
+use borrow.Author.Tests.{eq-eqb, ne-eqb}
+use borrow.Author.Needs.{needs}
+use Rattle.machine.proofs.traffic.fate_of.Statement.{statement}
+use Rattle.machine.proofs.traffic.fate_of.Tie as tie
+
+turned-requires : tie.Need-turned-requires
+turned-requires c κs = search needs
+
+returns : tie.Need-returns
+unfolding fateOf
+returns c = rw (eq-eqb _ _ (c .before .if1 .taken)) (c .turned .ensures)
+
+returns-2 : tie.Need-returns-2
+unfolding fateOf
+returns-2 c = rw (ne-eqb _ _ (c .if1 .left))
+
+pub fate-of-spec : {M : Type 1} → statement M
+fate-of-spec = tie.close (tie.spec turned-requires returns returns-2)

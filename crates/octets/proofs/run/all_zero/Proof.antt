@@ -1,0 +1,44 @@
+use mathlib.Core.Path.{_≡_, refl, sym, _∙_}
+use mathlib.Core.Bool.{_&&_}
+use Prim.Native.Nat.{_-_}
+use native.Mathlib.Omega.{arith}
+use lib.Dec.{eqb}
+use lib.ListN.{length, drop}
+use denote.Ref.{now}
+use Rattle.octets.specs.Octets.{allZero}
+use Rattle.octets.proofs.Zero.{zero-turn, zero-end}
+use Rattle.octets.proofs.run.all_zero.Statement.{statement}
+use Rattle.octets.proofs.run.all_zero.Tie as tie
+
+abbrev Inv-loop : tie.InvT-loop
+Inv-loop s acc₀ i₀ acc i = (eqb acc 0 && allZero (drop i s)) ≡ allZero s
+
+abbrev μ-loop : tie.MeasureT-loop
+μ-loop s acc₀ i₀ acc i = length s - i
+
+loop-holds : tie.Need-loop-holds Inv-loop μ-loop
+loop-holds c = refl
+
+shared-slice-read-acc : tie.Need-shared-slice-read-acc Inv-loop μ-loop
+shared-slice-read-acc c = omega arith
+
+add-i : tie.Need-add-i Inv-loop μ-loop
+add-i c = omega arith
+
+loop-less : tie.Need-loop-less Inv-loop μ-loop
+loop-less c = omega arith
+
+loop-again : tie.Need-loop-again Inv-loop μ-loop
+loop-again c =
+    let l : _ = c .before .before .loop in
+    zero-turn (now (c .before .before .before .args .s)) (l .i) (l .acc) (omega arith) ∙ l .inv
+
+returns : tie.Need-returns Inv-loop μ-loop
+returns c =
+    let l : _ = c .before .loop in
+    sym (zero-end (now (c .before .before .args .s)) (l .i) (l .acc) (omega arith)) ∙ l .inv
+
+pub all-zero-spec : {M : Type 1} → statement M
+all-zero-spec =
+    tie.close
+    (tie.spec Inv-loop μ-loop loop-holds shared-slice-read-acc add-i loop-less loop-again returns)
