@@ -1,6 +1,6 @@
 .PHONY: run test
 
-# Each kind of answer and its number, until the calls themselves can be run.
+# The paper's requests B1, B2, B4 and B5: what is read of each, and the reply. The calls themselves are to come.
 run:
 	@rt check bench > /dev/null || rt check bench
 	@target/bin/bench

@@ -9,7 +9,8 @@ use Rattle.octets.specs.Lists.{within}
 use Rattle.octets.specs.Text.{hex, hexed, text, digit}
 use Rattle.codec.specs.declared.Status.{Status}
 use Rattle.codec.specs.FrameSet.{external, cen, destination, group}
-use Rattle.codec.specs.Reply.{flags, header, timerTlv, carriesTimer, timerPart, replyPdu, replyFrame, tagOf, looped}
+use Rattle.codec.specs.Reply.{activeFlags, flagsBy, flags, header, timerTlv, carriesTimer, timerPart, replyPdu}
+use Rattle.codec.specs.Reply.{replyFrame, tagOf, looped}
 
 abbrev port : ℕ
 port = 0x020000000001
@@ -49,7 +50,7 @@ replies =
 
 each-reply-octet-by-octet :
     map (λ row. (row .0, row .1, row .2, row .3, replyPdu 4 (row .0) (row .1) port (row .2) (row .3))) replies ≡ replies
-unfolding replyPdu header flags timerPart carriesTimer timerTlv within octets shown
+unfolding replyPdu header flags flagsBy activeFlags timerPart carriesTimer timerTlv within octets shown
 each-reply-octet-by-octet = refl
 
 abbrev request : List ℕ

@@ -18,7 +18,7 @@ use Rattle.codec.specs.Tlv.{isTimer, badTlv, timers, badList, tlvOctets,
 use Rattle.codec.specs.Request.{versionOf, offsetOf, tlvsOf, wrongMac, wrongOffset, untimed, malformed, copiesOf}
 use Rattle.codec.specs.Reply.{header, timerTlv, carriesTimer, timerPart, replyPdu, replyFrame, looped}
 
-tlv-length : (t : Tlv) → length (tlvOctets t) ≡ 3 + length (t .value)
+pub tlv-length : (t : Tlv) → length (tlvOctets t) ≡ 3 + length (t .value)
 unfolding tlvOctets octets
 tlv-length t = omega arith
 
@@ -96,7 +96,7 @@ copies-short whom to pdu h =
     let whole : tlvsOf pdu .bad ≡ false = whole-list (tlvsOf pdu) (or-none (a || b) c abc .1) in
     omega (arith, parse-short (drop (4 + offsetOf pdu) pdu) whole, far, length-drop (4 + offsetOf pdu) pdu)
 
-timer-short : (kind code seconds : ℕ) → length (timerPart kind code seconds) ≤ 8
+pub timer-short : (kind code seconds : ℕ) → length (timerPart kind code seconds) ≤ 8
 unfolding timerPart timerTlv octets
 timer-short kind code seconds = go (carriesTimer kind code)
   where

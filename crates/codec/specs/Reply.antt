@@ -7,12 +7,20 @@ use lib.Dec.{eqb}
 use Rattle.octets.specs.Octets.{octets}
 use Rattle.octets.specs.Lists.{within}
 use Rattle.codec.specs.declared.Status.{Status}
+use Rattle.codec.specs.declared.ReplyFields.{ReplyFields}
+use Rattle.codec.specs.Request.{copiesOf}
 use Rattle.codec.specs.FrameSet.{destination, external, group}
 
--- Flag bit 1: active after the call, for types 1 to 3 only. Bit 2: External, only with bit 1. Bit 3: an unknown TLV was copied.
+-- Flag bit 1: active after the call, for types 1 to 3 only. Bit 2: External, only with bit 1.
+unfoldable pub activeFlags : ℕ → Status → ℕ
+activeFlags kind status = cond (within 1 3 kind && status .active) (cond (eqb (status .side) external) 3 1) 0
+
+-- Bit 3: an unknown TLV was copied.
+unfoldable pub flagsBy : ℕ → Status → Bool → ℕ
+flagsBy kind status copied = activeFlags kind status + cond copied 4 0
+
 unfoldable pub flags : ℕ → Status → List ℕ → ℕ
-flags kind status copies =
-    cond (within 1 3 kind && status .active) (cond (eqb (status .side) external) 3 1) 0 + cond (eqb (length copies) 0) 0 4
+flags kind status copies = flagsBy kind status (not (eqb (length copies) 0))
 
 -- MP level, version 0, opcode 56, flags, offset 8, the received type, the answer's code, port address
 unfoldable pub header : ℕ → ℕ → ℕ → ℕ → ℕ → List ℕ
@@ -34,6 +42,14 @@ timerPart kind code seconds = cond (carriesTimer kind code) (timerTlv seconds) [
 unfoldable pub replyPdu : ℕ → ℕ → ℕ → ℕ → Status → List ℕ → List ℕ
 replyPdu level kind code port status copies =
     header level (flags kind status copies) kind code port ++ timerPart kind code (status .seconds) ++ copies ++ (0 ∷ [])
+
+-- what a reply copies of a request, of so many octets: nothing where that is none
+unfoldable pub copied : ℕ → List ℕ → List ℕ
+copied count request = cond (eqb count 0) [] (copiesOf request)
+
+-- the PDU of a reply that copies so many octets
+unfoldable pub replyOf : ReplyFields → ℕ → List ℕ → List ℕ
+replyOf r count request = replyPdu (r .level) (r .kind) (r .code) (r .port) (r .status) (copied count request)
 
 -- Destination: the requester. Source: the port address, given apart from that in the PDU. Tag octets as received, then the SOAM
 -- type.

@@ -9,6 +9,7 @@ use Rattle.codec.specs.declared.Addressed.{Addressed}
 use Rattle.codec.specs.declared.Addressed.the-variants.{Elsewhere, Unicast, Multicast}
 use Rattle.codec.specs.declared.Request.{Request}
 use Rattle.codec.specs.declared.Request.the-variants.{Malformed, Reserved, Activate, Deactivate, State}
+use Rattle.codec.specs.declared.Read.{Read}
 use Rattle.codec.specs.FrameSet.{soam, pduOf}
 use Rattle.codec.specs.Tlv.{Parsed, parse, timers, badList, unknown}
 
@@ -83,3 +84,8 @@ requestOf whom to pdu =
 -- the unknown TLVs that its reply copies
 unfoldable pub copiesOf : List ℕ → List ℕ
 copiesOf pdu = unknown (tlvsOf pdu .tlvs)
+
+-- What is read of it: what it says, and how many octets its reply copies; of a malformed one, none.
+unfoldable pub readOf : Addressed → ℕ → List ℕ → Read
+readOf whom to pdu =
+    record { request = requestOf whom to pdu; copies = cond (malformed whom to pdu) 0 (length (copiesOf pdu)) }

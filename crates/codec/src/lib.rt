@@ -1,4 +1,30 @@
 // The message layer: a frame's place, the PDU of a request, TLV lists, replies and loops.
+mod answer;
+mod frame;
+mod reading;
+mod reply;
+mod requests;
+mod tlv;
+
+pub use answer::put_reply;
+pub use answer::put_reply_frame;
+pub use frame::destination_of;
+pub use frame::is_group;
+pub use frame::is_soam;
+pub use frame::place_of;
+pub use frame::source_of;
+pub use reading::read_request;
+pub use reply::put_head;
+pub use reply::put_looped;
+pub use requests::addressed_to;
+pub use requests::is_request;
+pub use requests::level_of;
+pub use requests::type_of;
+pub use tlv::Step;
+pub use tlv::Summary;
+pub use tlv::Timer;
+pub use tlv::copy_unknown;
+pub use tlv::summary_of;
 
 // A frame set of a port. Its kind is 1 untagged, 2 C-tagged, 3 S-tagged; its VID is 0 where it is untagged.
 pub struct FrameSet {
@@ -28,9 +54,24 @@ pub enum Request {
     State,
 }
 
+// What is read of a request: what it says, and how many octets of unknown TLVs its reply copies.
+pub struct Read {
+    pub request: Request,
+    pub copies: usize,
+}
+
 // What a reply says of its machine after the call. Side and seconds are 0 where it is inactive.
 pub struct Status {
     pub active: bool,
     pub side: u8,
     pub seconds: u32,
+}
+
+// What a reply says: its level, message type, code, port address and status.
+pub struct ReplyFields {
+    pub level: u8,
+    pub kind: u8,
+    pub code: u8,
+    pub port: u64,
+    pub status: Status,
 }

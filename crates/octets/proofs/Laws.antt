@@ -1,11 +1,12 @@
 -- Laws of numbers in network order: one over the width, for each way to use it.
 use mathlib.Core.Path.{_≡_, refl, ap}
-use mathlib.Core.List.{List, [], _∷_}
-use Prim.Native.Nat.{ℕ, suc, zero, _+_, _*_, _^_}
+use mathlib.Core.List.{List, [], _∷_, _++_}
+use Prim.Native.Nat.{ℕ, suc, zero, _+_, _*_, _^_, _≤_}
 use native.Mathlib.Nat.{add-zero, zero-add, suc-add, add-assoc, add-mul, mul-assoc, mul-one, zero-mul}
-use lib.ListN.{length, getD, drop}
+use native.Mathlib.Omega.{arith}
+use lib.ListN.{length, getD, drop, length-drop, List·getD-append}
 use lib.Pow.{pow-add}
-use lib.Seq.{getD-drop, drop-drop, drop-nil}
+use lib.Seq.{getD-drop, drop-drop, drop-nil, drop-append-le}
 use Rattle.octets.specs.Octets.{number, octets}
 
 pub octets-length : (n x : ℕ) → length (octets n x) ≡ n
@@ -32,3 +33,14 @@ number-parts m n at l ea eb = rw (ea, eb, number-join, drop-drop)
 pub number-1 : (at : ℕ) (l : List ℕ) → getD l at 0 ≡ number 1 (drop at l)
 unfolding number
 number-1 at l = simp (getD-drop, add-zero, mul-one)
+
+-- what stands behind a number's octets is no part of it
+pub number-on : (n : ℕ) (l t : List ℕ) → n ≤ length l → number n (l ++ t) ≡ number n l
+unfolding number
+number-on zero l t h = refl
+number-on (suc n) l t h =
+    rw (
+      List·getD-append l t 0 0 (omega arith),
+      drop-append-le 1 l t (omega arith),
+      number-on n (drop 1 l) t (omega (arith, length-drop 1 l)),
+    )

@@ -7,9 +7,10 @@ use Rattle.octets.specs.Octets.{number, octets, movedUp, movedDown, allZero, sa
 use Rattle.octets.specs.Text.{text, digit, hexed, hex}
 use Rattle.codec.specs.FrameSet.{destination, source, group, typeBehind, vidOf, setOf, tagged, byTag, tagFits, placeOf, soam}
 use Rattle.codec.specs.FrameSet.{pduOf}
-use Rattle.codec.specs.Reply.{flags, header, timerTlv, carriesTimer, timerPart, replyPdu, replyFrame, tagOf, looped}
+use Rattle.codec.specs.Reply.{activeFlags, flagsBy, flags, header, timerTlv, carriesTimer, timerPart, replyPdu, copied, replyOf}
+use Rattle.codec.specs.Reply.{replyFrame, tagOf, looped}
 use Rattle.codec.specs.Request.{octet, levelOf, versionOf, opcodeOf, offsetOf, typeOf, portMacOf, tlvsOf, isRequest, class2}
-use Rattle.codec.specs.Request.{addressed, wrongMac, wrongOffset, untimed, malformed, byType, requestOf, copiesOf}
+use Rattle.codec.specs.Request.{addressed, wrongMac, wrongOffset, untimed, malformed, byType, requestOf, copiesOf, readOf}
 use Rattle.codec.specs.Tlv.{ended, cut, followed, walk, parse, subtype, isTimer, badTlv, timers, badList, tlvOctets, unknown}
 use Rattle.machine.specs.Machine.{activity, conditionOf, isOpen, key, keyOf, lasting, owed, goodSeconds, answered, admitted}
 use Rattle.machine.specs.Machine.{sameMp, refreshed, restarted, closed, decided, after, passes, turned, fateOf, dataEvent}
@@ -42,23 +43,23 @@ use Rattle.tmavolice.proofs.Mps.{imageOf, entries}
 -- every definition, to be unfolded at once
 everything : Unit {0}
 unfolding within every some count first ascends put without distinct number octets movedUp movedDown allZero same text digit
-    hexed hex destination source group typeBehind vidOf setOf tagged byTag tagFits placeOf soam pduOf flags header timerTlv
-    carriesTimer timerPart replyPdu replyFrame tagOf looped octet levelOf versionOf opcodeOf offsetOf typeOf portMacOf tlvsOf
-    isRequest class2 addressed wrongMac wrongOffset untimed malformed byType requestOf copiesOf ended cut followed walk parse
-    subtype isTimer badTlv timers badList tlvOctets unknown activity conditionOf isOpen key keyOf lasting owed goodSeconds
-    answered admitted sameMp refreshed restarted closed decided after passes turned fateOf dataEvent closedBy withdrawn
-    allowedAfter secondsLeft statusOf conditionNumber eventNumber conditionAt eventAt actionOf actionAt elapsed jumped ticked
-    joined parted field isDigit isNumber isAddress spelled numberIn addressIn listed portKinds flowKinds mpKinds asPort asFlow
-    asMp byWord lineOf noPort noFlow portNumbered flowNumbered setKey flowKey flowOfSet inPlan mpAt faces mpsOf mpCount
-    goodAddress goodVid goodKind goodPort goodFlow keepsRules portReason flowReason mpReason reasonOf withMp added finished
-    readLines emptyPlan planIn zeros portRow flowRow sessionRow rows table rowsIn placeFrom places bit head image portIn flowIn
-    sessionIn stateOf okImage isAllowed onlyFlows goodTime goodSession valid machineOf roomFor noticeDue noSession firstOwed
-    packed numberOf leaves sends run blank right benchPlan start room written toPort toTester asks activate60 stateRequest
-    otherVlan benchTable noSuchPlace badLength shortOutput noSuchFlow refusal made makeServed tickedTo managed prohibitedBy
-    restartedAt served lent handed call makes keepsImage stored enter pdu mpOf forMp ownKey own ownAction byFate dataServed
-    goesOn newSession withSessions changed replied decides machineServed answers requestServed byWhom inFlow inPlace frameServed
-    portOf noticeFrame noticed noticeServed opened due blankFrame refusals activateFrom sessions tester requests traffic mpPlan
-    mps otherLevel atMip atEnni toGroup withPriority levels groups entered imageOf entries
+    hexed hex destination source group typeBehind vidOf setOf tagged byTag tagFits placeOf soam pduOf activeFlags flagsBy flags
+    header timerTlv carriesTimer timerPart replyPdu copied replyOf replyFrame tagOf looped octet levelOf versionOf opcodeOf
+    offsetOf typeOf portMacOf tlvsOf isRequest class2 addressed wrongMac wrongOffset untimed malformed byType requestOf copiesOf
+    readOf ended cut followed walk parse subtype isTimer badTlv timers badList tlvOctets unknown activity conditionOf isOpen key
+    keyOf lasting owed goodSeconds answered admitted sameMp refreshed restarted closed decided after passes turned fateOf
+    dataEvent closedBy withdrawn allowedAfter secondsLeft statusOf conditionNumber eventNumber conditionAt eventAt actionOf
+    actionAt elapsed jumped ticked joined parted field isDigit isNumber isAddress spelled numberIn addressIn listed portKinds
+    flowKinds mpKinds asPort asFlow asMp byWord lineOf noPort noFlow portNumbered flowNumbered setKey flowKey flowOfSet inPlan
+    mpAt faces mpsOf mpCount goodAddress goodVid goodKind goodPort goodFlow keepsRules portReason flowReason mpReason reasonOf
+    withMp added finished readLines emptyPlan planIn zeros portRow flowRow sessionRow rows table rowsIn placeFrom places bit head
+    image portIn flowIn sessionIn stateOf okImage isAllowed onlyFlows goodTime goodSession valid machineOf roomFor noticeDue
+    noSession firstOwed packed numberOf leaves sends run blank right benchPlan start room written toPort toTester asks activate60
+    stateRequest otherVlan benchTable noSuchPlace badLength shortOutput noSuchFlow refusal made makeServed tickedTo managed
+    prohibitedBy restartedAt served lent handed call makes keepsImage stored enter pdu mpOf forMp ownKey own ownAction byFate
+    dataServed goesOn newSession withSessions changed replied decides machineServed answers requestServed byWhom inFlow inPlace
+    frameServed portOf noticeFrame noticed noticeServed opened due blankFrame refusals activateFrom sessions tester requests
+    traffic mpPlan mps otherLevel atMip atEnni toGroup withPriority levels groups entered imageOf entries
 everything = tt
 
 -- B1 to B12
