@@ -3,3 +3,4 @@ mod MachineExamples
 mod TimeExamples
 pub mod Laws
 pub mod Entries
+pub mod Answers

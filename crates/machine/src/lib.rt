@@ -7,6 +7,7 @@ mod traffic;
 
 pub use request::after;
 pub use request::decide;
+pub use request::status_after;
 pub use running::lasting;
 pub use running::owed;
 pub use running::seconds_left;

@@ -4,9 +4,11 @@ use crate::Decided;
 use crate::Machine;
 use crate::Session;
 use crate::running::lasting;
+use crate::running::status_of;
+use codec::Status;
 ghost use mathlib.Core.Path.{_≡_};
 ghost use Prim.Native.Nat.{_*_, _≤_, _<_};
-ghost use Rattle.machine.specs.Machine.{answered, admitted, sameMp, restarted, refreshed, closed, decided, after};
+ghost use Rattle.machine.specs.Machine.{answered, admitted, sameMp, restarted, refreshed, closed, decided, after, statusOf};
 
 // A failed request changes nothing.
 fn answered(code: u8) -> Decided
@@ -122,4 +124,11 @@ pub fn after(change: Change, m: Machine) -> Machine
         Change::Restarted(s) => Machine::Active(s),
         Change::Closed => Machine::Inactive,
     }
+}
+
+// What a reply says of the machine after a change.
+pub fn status_after(change: Change, m: Machine) -> Status
+    ensures { λ r. ⌜ r ≡ statusOf (after change m) ⌝ }
+{
+    status_of(after(change, m))
 }
