@@ -1,9 +1,9 @@
 // The requests of B1, B2, B4 and B5: what is read of each, and the reply of an inactive machine with room for one more session.
 use codec::Addressed;
-use codec::ReplyFields;
 use codec::Request;
 use machine::Machine;
 use machine::Session;
+use replies::ReplyFields;
 ghost use mathlib.Core.Path.{_≡_};
 ghost use Prim.Native.Nat.{_<_};
 
@@ -44,7 +44,7 @@ fn show(name: &[u8], pdu: &[u8]) {
     }
     let fields = answer(request, codec::type_of(pdu), codec::level_of(pdu));
     let mut out = [0u8; 64];
-    let n = codec::put_reply(&mut out, fields, count, pdu);
+    let n = replies::put_reply(&mut out, fields, count, pdu);
     dump(b"   reply  ", &out, n);
 }
 

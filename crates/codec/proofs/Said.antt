@@ -18,9 +18,8 @@ use Rattle.codec.specs.declared.Read.{Read}
 use Rattle.codec.specs.declared.tlv.Summary.{Summary}
 use Rattle.codec.specs.Tlv.{parse, timers, badList}
 use Rattle.codec.specs.Walk.{summaryOf}
-use Rattle.codec.specs.Request.{octet, offsetOf, typeOf, tlvsOf, wrongMac, wrongOffset, untimed, malformed, byType, requestOf}
+use Rattle.codec.specs.Request.{octet, offsetOf, typeOf, tlvsOf, wrongMac, wrongOffset, untimed, malformed, byType, requestOf, copied}
 use Rattle.codec.specs.Request.{versionOf, portMacOf, copiesOf, readOf}
-use Rattle.codec.specs.Reply.{copied}
 use Rattle.codec.proofs.After.{parse-on, summary-bad, summary-unknown, summary-timer}
 use Rattle.codec.proofs.Short.{parse-short}
 

@@ -1,5 +1,4 @@
 pub mod FrameSet
 pub mod Tlv
 pub mod Request
-pub mod Reply
 pub mod Walk

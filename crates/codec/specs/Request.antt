@@ -1,5 +1,5 @@
 -- "Requests at an MP": the PDU's octets, whom a request is for, and what it says.
-use mathlib.Core.List.{List}
+use mathlib.Core.List.{List, []}
 use mathlib.Core.Bool.{Bool, false, cond, _&&_, _||_, not}
 use Prim.Native.Nat.{ℕ, _+_, _-_, _/_, _%_}
 use lib.ListN.{length, drop, getD}
@@ -89,3 +89,7 @@ copiesOf pdu = unknown (tlvsOf pdu .tlvs)
 unfoldable pub readOf : Addressed → ℕ → List ℕ → Read
 readOf whom to pdu =
     record { request = requestOf whom to pdu; copies = cond (malformed whom to pdu) 0 (length (copiesOf pdu)) }
+
+-- what a reply copies of it, of so many octets: nothing where that is none
+unfoldable pub copied : ℕ → List ℕ → List ℕ
+copied count pdu = cond (eqb count 0) [] (copiesOf pdu)

@@ -1,21 +1,16 @@
-// The message layer: a frame's place, the PDU of a request, TLV lists, replies and loops.
-mod answer;
+// The message layer, read: a frame's place, the PDU of a request, TLV lists.
 mod frame;
 mod reading;
-mod reply;
 mod requests;
 mod tlv;
 
-pub use answer::put_reply;
-pub use answer::put_reply_frame;
 pub use frame::destination_of;
 pub use frame::is_group;
 pub use frame::is_soam;
 pub use frame::place_of;
 pub use frame::source_of;
+pub use reading::first_tlv;
 pub use reading::read_request;
-pub use reply::put_head;
-pub use reply::put_looped;
 pub use requests::addressed_to;
 pub use requests::is_request;
 pub use requests::level_of;
@@ -65,13 +60,4 @@ pub struct Status {
     pub active: bool,
     pub side: u8,
     pub seconds: u32,
-}
-
-// What a reply says: its level, message type, code, port address and status.
-pub struct ReplyFields {
-    pub level: u8,
-    pub kind: u8,
-    pub code: u8,
-    pub port: u64,
-    pub status: Status,
 }

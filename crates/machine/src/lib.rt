@@ -25,7 +25,7 @@ pub use traffic::fate_of;
 // A session of a flow and a source address. The tag is the number of its octets, of which there are `count`. A session is open
 // while `notice` is 0; closed, it is owed a notice with that code and has no time left.
 pub struct Session {
-    pub flow: u8,
+    pub flow: u16,
     pub source: u64,
     pub level: u8,
     pub side: u8,

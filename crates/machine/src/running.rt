@@ -25,7 +25,7 @@ pub fn owed(code: u8, s: Session) -> Session
 }
 
 // After a prohibition of a flow.
-pub fn withdrawn(flow: u8, s: Session) -> Session
+pub fn withdrawn(flow: u16, s: Session) -> Session
     ensures { λ r. ⌜ r ≡ withdrawn flow s ⌝ }
 {
     if s.notice != 0 {

@@ -14,7 +14,7 @@ unfolding octets
 octets-length zero x = refl
 octets-length (suc n) x = ap suc (octets-length n x)
 
-drop-more : (m : ℕ) (l : List ℕ) → drop m (drop 1 l) ≡ drop (suc m) l
+pub drop-more : (m : ℕ) (l : List ℕ) → drop m (drop 1 l) ≡ drop (suc m) l
 drop-more m [] = drop-nil m
 drop-more m (x ∷ l) = refl
 

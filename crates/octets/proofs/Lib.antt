@@ -6,3 +6,4 @@ pub mod Same
 pub mod Zero
 pub mod Moving
 mod Examples
+pub mod LowLaws

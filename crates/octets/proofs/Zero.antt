@@ -20,7 +20,7 @@ or-none a x e =
     let r : bitAnd a x ≤ x = and-le-r a x in
     (omega arith, omega arith)
 
-or-eqb : (a x : ℕ) → eqb (bitOr a x) 0 ≡ (eqb a 0 && eqb x 0)
+pub or-eqb : (a x : ℕ) → eqb (bitOr a x) 0 ≡ (eqb a 0 && eqb x 0)
 or-eqb a x = go (eqb a 0) (eqb x 0) refl refl
   where
     go : (p q : Bool) → eqb a 0 ≡ p → eqb x 0 ≡ q → eqb (bitOr a x) 0 ≡ (p && q)

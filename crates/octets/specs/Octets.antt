@@ -15,6 +15,15 @@ unfoldable pub octets : ℕ → ℕ → List ℕ
 octets zero x = []
 octets (suc n) x = x / 256 ^ n % 256 ∷ octets n x
 
+-- the same with the first octet the lowest: the number that the first n octets spell, and the n octets of a number
+unfoldable pub lowNumber : ℕ → List ℕ → ℕ
+lowNumber zero l = 0
+lowNumber (suc n) l = getD l 0 0 + lowNumber n (drop 1 l) * 256
+
+unfoldable pub lowOctets : ℕ → ℕ → List ℕ
+lowOctets zero x = []
+lowOctets (suc n) x = x % 256 ∷ lowOctets n (x / 256)
+
 -- out, with its first octets replaced by w
 abbrev pub over : List ℕ → List ℕ → List ℕ
 over w out = w ++ drop (length w) out

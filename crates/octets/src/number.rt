@@ -1,11 +1,10 @@
-// Numbers of 2, 4, 6 and 8 octets, read at a place of a slice, as octets, and written at a place.
+// Numbers of 2, 4 and 6 octets in network order, read at a place of a slice and as octets.
 ghost use mathlib.Core.Path.{_≡_};
 ghost use Prim.Native.Nat.{_+_, _<_, _≤_, _^_};
 ghost use lib.ListN.{length, drop};
-ghost use Rattle.octets.specs.Octets.{number, octets, splice};
-use super::run::put_at;
+ghost use Rattle.octets.specs.Octets.{number, octets};
 
-fn wide(x: u8) -> u32
+pub fn wide(x: u8) -> u32
     ensures { λ r. ⌜ (r ≡ x) × (r < 256) ⌝ }
 {
     x as u32
@@ -32,7 +31,7 @@ pub fn number4(s: &[u8], at: usize) -> u32
     pair(s, at) * 65536 + pair(s, at + 2)
 }
 
-fn wider(x: u32) -> u64
+pub fn wider(x: u32) -> u64
     ensures { λ r. ⌜ (r ≡ x) × (r < 2 ^ 32) ⌝ }
 {
     x as u64
@@ -43,13 +42,6 @@ pub fn number6(s: &[u8], at: usize) -> u64
     ensures { λ r. ⌜ (r ≡ number 6 (drop at (now (s .entry)))) × (r < 2 ^ 48) ⌝ }
 {
     wider(pair(s, at)) * 4294967296 + wider(number4(s, at + 2))
-}
-
-pub fn number8(s: &[u8], at: usize) -> u64
-    requires { ⌜ at + 8 ≤ length (now s) ⌝ }
-    ensures { λ r. ⌜ r ≡ number 8 (drop at (now (s .entry))) ⌝ }
-{
-    wider(number4(s, at)) * 4294967296 + wider(number4(s, at + 4))
 }
 
 pub fn octets2(x: usize) -> [u8; 2]
@@ -80,51 +72,4 @@ pub fn octets6(x: u64) -> [u8; 6]
         (x / 256 % 256) as u8,
         (x % 256) as u8,
     ]
-}
-
-pub fn octets8(x: u64) -> [u8; 8]
-    ensures { λ r. ⌜ r ≡ octets 8 x ⌝ }
-{
-    [
-        (x / 72057594037927936 % 256) as u8,
-        (x / 281474976710656 % 256) as u8,
-        (x / 1099511627776 % 256) as u8,
-        (x / 4294967296 % 256) as u8,
-        (x / 16777216 % 256) as u8,
-        (x / 65536 % 256) as u8,
-        (x / 256 % 256) as u8,
-        (x % 256) as u8,
-    ]
-}
-
-pub fn put2(out: &mut [u8], at: usize, x: usize)
-    requires { ⌜ at + 2 ≤ length (now out) ⌝ }
-    ensures { λ _. ⌜ now (out .exit) ≡ splice at (octets 2 x) (now (out .entry)) ⌝ }
-{
-    let w = octets2(x);
-    put_at(out, at, &w);
-}
-
-pub fn put4(out: &mut [u8], at: usize, x: u32)
-    requires { ⌜ at + 4 ≤ length (now out) ⌝ }
-    ensures { λ _. ⌜ now (out .exit) ≡ splice at (octets 4 x) (now (out .entry)) ⌝ }
-{
-    let w = octets4(x);
-    put_at(out, at, &w);
-}
-
-pub fn put6(out: &mut [u8], at: usize, x: u64)
-    requires { ⌜ at + 6 ≤ length (now out) ⌝ }
-    ensures { λ _. ⌜ now (out .exit) ≡ splice at (octets 6 x) (now (out .entry)) ⌝ }
-{
-    let w = octets6(x);
-    put_at(out, at, &w);
-}
-
-pub fn put8(out: &mut [u8], at: usize, x: u64)
-    requires { ⌜ at + 8 ≤ length (now out) ⌝ }
-    ensures { λ _. ⌜ now (out .exit) ≡ splice at (octets 8 x) (now (out .entry)) ⌝ }
-{
-    let w = octets8(x);
-    put_at(out, at, &w);
 }

@@ -1,10 +1,11 @@
--- The image of a state, octet by octet as docs/LAYOUT.md has it, and the state that octets are read as.
+-- The image of a state, octet by octet as docs/LAYOUT.md has it, and the state that octets are read as. Numbers of more than one
+-- octet have the lowest first.
 use mathlib.Core.List.{List, [], _∷_, _++_, map}
 use mathlib.Core.Bool.{Bool, true, false, cond, _&&_}
-use Prim.Native.Nat.{ℕ, zero, suc, _+_, _-_, _/_, _%_, _^_}
+use Prim.Native.Nat.{ℕ, zero, suc, _+_, _-_}
 use lib.ListN.{length, getD, take, drop, replicate}
 use lib.Dec.{eqb}
-use Rattle.octets.specs.Octets.{number, octets, same}
+use Rattle.octets.specs.Octets.{lowNumber, lowOctets, same}
 use Rattle.machine.specs.declared.Session.{Session}
 use Rattle.machine.specs.Machine.{keyOf}
 use Rattle.plan.specs.declared.Port.{Port}
@@ -16,16 +17,16 @@ zeros n = replicate n 0
 
 -- a port in 16 octets, a flow in 32, a session in 32; the first eight octets are not all zero
 unfoldable pub portRow : Port → List ℕ
-portRow p = p .number ∷ p .kind ∷ octets 6 (p .address) ++ zeros 8
+portRow p = lowOctets 6 (p .address) ++ (p .kind ∷ p .number ∷ zeros 8)
 
 unfoldable pub flowRow : Flow → List ℕ
-flowRow f = f .port ∷ f .kind ∷ octets 2 (f .vid) ++ (0 ∷ 0 ∷ f .number ∷ 0 ∷ f .mps) ++ zeros 16
+flowRow f = (0 ∷ f .number ∷ 0 ∷ 0 ∷ lowOctets 2 (f .vid)) ++ (f .kind ∷ f .port ∷ f .mps) ++ zeros 16
 
 unfoldable pub sessionRow : Session → List ℕ
 sessionRow x =
-    octets 8 (keyOf x)
-    ++ octets 4 (x .left)
-    ++ (x .notice ∷ x .level ∷ x .side ∷ x .count ∷ octets 8 (x .tag))
+    lowOctets 8 (keyOf x)
+    ++ lowOctets 4 (x .left)
+    ++ (x .notice ∷ x .level ∷ x .side ∷ x .count ∷ lowOctets 8 (x .tag))
     ++ zeros 8
 
 module _ {A : Type 0} where
@@ -40,7 +41,7 @@ module _ {A : Type 0} where
   -- the rows read from a table of at most n, each of so many octets, up to an empty one
   unfoldable pub rowsIn : ℕ → ℕ → (List ℕ → A) → List ℕ → List A
   rowsIn zero width read l = []
-  rowsIn (suc n) width read l = cond (eqb (number 8 l) 0) [] (read l ∷ rowsIn n width read (drop width l))
+  rowsIn (suc n) width read l = cond (eqb (lowNumber 8 l) 0) [] (read l ∷ rowsIn n width read (drop width l))
 
 -- where a flow's row stands in the table, from 1, or 0 if the number has no flow
 unfoldable pub placeFrom : ℕ → ℕ → List Flow → ℕ
@@ -59,7 +60,7 @@ bit false = 0
 -- the head: 1,536 octets
 unfoldable pub head : State → List ℕ
 head s =
-    octets 4 (s .clock)
+    lowOctets 4 (s .clock)
     ++ zeros 28
     ++ map bit (s .allowed)
     ++ places 32 1 (s .plan .flows)
@@ -73,28 +74,28 @@ unfoldable pub image : State → List ℕ
 image s = head s ++ table 2560 sessionRow (s .sessions)
 
 unfoldable pub portIn : List ℕ → Port
-portIn l = record { number = getD l 0 0; kind = getD l 1 0; address = number 6 (drop 2 l) }
+portIn l = record { number = getD l 7 0; kind = getD l 6 0; address = lowNumber 6 l }
 
 unfoldable pub flowIn : List ℕ → Flow
 flowIn l =
     record {
-      number = getD l 6 0;
-      port = getD l 0 0;
-      kind = getD l 1 0;
-      vid = number 2 (drop 2 l);
+      number = getD l 1 0;
+      port = getD l 7 0;
+      kind = getD l 6 0;
+      vid = lowNumber 2 (drop 4 l);
       mps = take 8 (drop 8 l);
     }
 
 unfoldable pub sessionIn : List ℕ → Session
 sessionIn l =
     record {
-      flow = number 8 l / 2 ^ 48;
-      source = number 8 l % 2 ^ 48;
+      flow = lowNumber 2 (drop 6 l);
+      source = lowNumber 6 l;
       level = getD l 13 0;
       side = getD l 14 0;
       count = getD l 15 0;
-      tag = number 8 (drop 16 l);
-      left = number 4 (drop 8 l);
+      tag = lowNumber 8 (drop 16 l);
+      left = lowNumber 4 (drop 8 l);
       notice = getD l 12 0;
     }
 
@@ -103,7 +104,7 @@ unfoldable pub stateOf : List ℕ → State
 stateOf l =
     record {
       plan = record { ports = rowsIn 8 16 portIn (drop 128 l); flows = rowsIn 32 32 flowIn (drop 256 l) };
-      clock = number 4 l;
+      clock = lowNumber 4 l;
       allowed = map (eqb 1) (take 32 (drop 32 l));
       sessions = rowsIn 16 32 sessionIn (drop 1536 l);
     }

@@ -21,6 +21,9 @@ pub record State : Type 0 where
   pub allowed : List Bool
   pub sessions : List Session
 
+unfoldable pub withSessions : List Session → State → State
+withSessions xs s = record { plan = s .plan; clock = s .clock; allowed = s .allowed; sessions = xs }
+
 unfoldable pub isAllowed : ℕ → State → Bool
 isAllowed flow s = getD (s .allowed) (flow - 1) false
 

@@ -3,14 +3,14 @@ use mathlib.Core.Path.{_≡_, refl}
 use mathlib.Core.Bool.{true}
 use mathlib.Core.List.{_++_}
 use Rattle.octets.specs.Lists.{within, every, some, count, first, ascends, put, without, distinct}
-use Rattle.octets.specs.Octets.{number, octets, movedUp, movedDown, allZero, same}
+use Rattle.octets.specs.Octets.{number, octets, lowNumber, lowOctets, movedUp, movedDown, allZero, same}
 use Rattle.octets.specs.Text.{text, digit, hexed, hex}
 use Rattle.codec.specs.FrameSet.{destination, source, group, typeBehind, vidOf, setOf, tagged, byTag, tagFits, placeOf, soam}
 use Rattle.codec.specs.FrameSet.{pduOf}
-use Rattle.codec.specs.Reply.{activeFlags, flagsBy, flags, header, timerTlv, carriesTimer, timerPart, replyPdu, copied, replyOf}
-use Rattle.codec.specs.Reply.{replyFrame, tagOf, looped}
+use Rattle.replies.specs.Reply.{activeFlags, flagsBy, flags, header, timerTlv, carriesTimer, timerPart, replyPdu, replyOf}
+use Rattle.replies.specs.Reply.{replyFrame, tagOf, looped}
 use Rattle.codec.specs.Request.{octet, levelOf, versionOf, opcodeOf, offsetOf, typeOf, portMacOf, tlvsOf, isRequest, class2}
-use Rattle.codec.specs.Request.{addressed, wrongMac, wrongOffset, untimed, malformed, byType, requestOf, copiesOf, readOf}
+use Rattle.codec.specs.Request.{addressed, wrongMac, wrongOffset, untimed, malformed, byType, requestOf, copiesOf, copied, readOf}
 use Rattle.codec.specs.Tlv.{ended, cut, followed, walk, parse, subtype, isTimer, badTlv, timers, badList, tlvOctets, unknown}
 use Rattle.machine.specs.Machine.{activity, conditionOf, isOpen, key, keyOf, lasting, owed, goodSeconds, answered, admitted}
 use Rattle.machine.specs.Machine.{sameMp, refreshed, restarted, closed, decided, after, passes, turned, fateOf, dataEvent}
@@ -24,7 +24,7 @@ use Rattle.plan.specs.Plan.{mpCount, goodAddress, goodVid, goodKind, goodPort, 
 use Rattle.plan.specs.PlanText.{portReason, flowReason, mpReason, reasonOf, withMp, added, finished, readLines, emptyPlan, planIn}
 use Rattle.state.specs.Image.{zeros, portRow, flowRow, sessionRow, rows, table, rowsIn, placeFrom, places, bit, head, image}
 use Rattle.state.specs.Image.{portIn, flowIn, sessionIn, stateOf, okImage}
-use Rattle.state.specs.State.{isAllowed, onlyFlows, goodTime, goodSession, valid, machineOf, roomFor, noticeDue, noSession}
+use Rattle.state.specs.State.{withSessions, isAllowed, onlyFlows, goodTime, goodSession, valid, machineOf, roomFor, noticeDue, noSession}
 use Rattle.state.specs.State.{firstOwed}
 use Rattle.tmavolice.specs.Answer.{packed, numberOf, leaves, sends}
 use Rattle.tmavolice.specs.Bench.{run, blank, right, benchPlan, start, room, written, toPort, toTester, asks, activate60}
@@ -33,7 +33,7 @@ use Rattle.tmavolice.specs.Calls.{noSuchPlace, badLength, shortOutput, n
 use Rattle.tmavolice.specs.Calls.{managed, prohibitedBy, restartedAt, served, lent, handed, call, makes, keepsImage, stored}
 use Rattle.tmavolice.specs.Calls.{enter}
 use Rattle.tmavolice.specs.Frame.{pdu, mpOf, forMp, ownKey, own, ownAction, byFate, dataServed, goesOn, newSession}
-use Rattle.tmavolice.specs.Frame.{withSessions, changed, replied, decides, machineServed, answers, requestServed, byWhom}
+use Rattle.tmavolice.specs.Frame.{changed, replied, decides, machineServed, answers, requestServed, byWhom}
 use Rattle.tmavolice.specs.Frame.{inFlow, inPlace, frameServed}
 use Rattle.tmavolice.specs.Notice.{portOf, noticeFrame, noticed, noticeServed}
 use Rattle.tmavolice.proofs.Further.{opened, due, blankFrame, refusals, activateFrom, sessions, tester, requests, traffic}
@@ -42,7 +42,7 @@ use Rattle.tmavolice.proofs.Mps.{imageOf, entries}
 
 -- every definition, to be unfolded at once
 everything : Unit {0}
-unfolding within every some count first ascends put without distinct number octets movedUp movedDown allZero same text digit
+unfolding within every some count first ascends put without distinct number octets lowNumber lowOctets movedUp movedDown allZero same text digit
     hexed hex destination source group typeBehind vidOf setOf tagged byTag tagFits placeOf soam pduOf activeFlags flagsBy flags
     header timerTlv carriesTimer timerPart replyPdu copied replyOf replyFrame tagOf looped octet levelOf versionOf opcodeOf
     offsetOf typeOf portMacOf tlvsOf isRequest class2 addressed wrongMac wrongOffset untimed malformed byType requestOf copiesOf

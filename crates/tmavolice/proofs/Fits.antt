@@ -20,8 +20,9 @@ use Rattle.codec.specs.FrameSet.{placeOf, destination, source, pduOf}
 use Rattle.codec.specs.Tlv.{timers}
 use Rattle.codec.specs.Request.{malformed, byType, requestOf, copiesOf, levelOf, typeOf, tlvsOf}
 use Rattle.codec.specs.declared.Status.{Status}
-use Rattle.codec.specs.Reply.{tagOf, carriesTimer, timerPart, replyPdu}
-use Rattle.codec.proofs.Short.{copies-short, reply-short, malformed-reply-short, looped-length, frame-length, pdu-length}
+use Rattle.replies.specs.Reply.{tagOf, carriesTimer, timerPart, replyPdu}
+use Rattle.codec.proofs.Short.{copies-short}
+use Rattle.replies.proofs.Lengths.{reply-short, malformed-reply-short, looped-length, frame-length, pdu-length}
 use Rattle.machine.specs.declared.Session.{Session}
 use Rattle.machine.specs.declared.Machine.the-variants.{Inactive}
 use Rattle.machine.specs.declared.Fate.{Fate}

@@ -13,7 +13,7 @@ use Rattle.machine.specs.Machine.{conditionOf, allowedAfter, withdrawn}
 use Rattle.machine.specs.Time.{elapsed, jumped, ticked}
 use Rattle.plan.specs.Plan.{Plan, portNumbered, flowNumbered, inPlan}
 use Rattle.plan.specs.PlanText.{Reading, fault, planned, planIn}
-use Rattle.state.specs.State.{State, isAllowed, noticeDue}
+use Rattle.state.specs.State.{State, withSessions, isAllowed, noticeDue}
 use Rattle.state.specs.Image.{image, stateOf, okImage}
 use Rattle.tmavolice.specs.declared.Answer.{Answer}
 use Rattle.tmavolice.specs.declared.Answer.the-variants.{
@@ -28,7 +28,7 @@ use Rattle.tmavolice.specs.declared.Answer.the-variants.{
   Faulty,
 }
 use Rattle.tmavolice.specs.Answer.{Sent, leaves, numberOf}
-use Rattle.tmavolice.specs.Frame.{frameServed, withSessions}
+use Rattle.tmavolice.specs.Frame.{frameServed}
 use Rattle.tmavolice.specs.Notice.{noticeServed}
 
 -- Make a state from a plan's text and a clock reading; hand in a frame with its port and side, and an output; tick; allow or

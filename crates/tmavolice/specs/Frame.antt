@@ -14,7 +14,7 @@ use Rattle.codec.specs.declared.Request.{Request}
 use Rattle.codec.specs.declared.Request.the-variants.{Malformed, Reserved, Activate, Deactivate, State as StateRequest}
 use Rattle.codec.specs.FrameSet.{placeOf, destination, source, soam, pduOf}
 use Rattle.codec.specs.Request.{isRequest, addressed, requestOf, copiesOf, levelOf, typeOf}
-use Rattle.codec.specs.Reply.{replyFrame, replyPdu, tagOf, looped}
+use Rattle.replies.specs.Reply.{replyFrame, replyPdu, tagOf, looped}
 use Rattle.machine.specs.declared.Session.{Session}
 use Rattle.machine.specs.declared.Machine.{Machine}
 use Rattle.machine.specs.declared.Change.{Change}
@@ -27,7 +27,7 @@ use Rattle.machine.specs.Machine.{key, keyOf, conditionOf, decided, fateOf, dat
 use Rattle.plan.specs.declared.Port.{Port}
 use Rattle.plan.specs.declared.Flow.{Flow}
 use Rattle.plan.specs.Plan.{portNumbered, flowOfSet, inPlan, mpAt, mip, faces}
-use Rattle.state.specs.State.{State, isAllowed, machineOf, roomFor}
+use Rattle.state.specs.State.{State, withSessions, isAllowed, machineOf, roomFor}
 use Rattle.tmavolice.specs.declared.Answer.the-variants.{Forwarded, Dropped, Looped, Replied, RepliedForwarded}
 use Rattle.tmavolice.specs.Answer.{Sent, leaves, sends}
 
@@ -94,9 +94,6 @@ newSession a =
       left = 0;
       notice = 0;
     }
-
-unfoldable pub withSessions : List Session → State → State
-withSessions xs s = record { plan = s .plan; clock = s .clock; allowed = s .allowed; sessions = xs }
 
 -- the state after a change of the session that has this key
 unfoldable pub changed : ℕ → Change → State → State

@@ -3,16 +3,15 @@ use mathlib.Core.List.{List, []}
 use Prim.Native.Nat.{ℕ}
 use Rattle.octets.specs.Octets.{octets}
 use Rattle.octets.specs.Lists.{without}
-use Rattle.codec.specs.Reply.{replyFrame, replyPdu}
+use Rattle.replies.specs.Reply.{replyFrame, replyPdu}
 use Rattle.machine.specs.declared.Session.{Session}
 use Rattle.machine.specs.declared.Machine.the-variants.{Inactive}
 use Rattle.machine.specs.Machine.{keyOf, statusOf}
 use Rattle.plan.specs.declared.Port.{Port}
 use Rattle.plan.specs.Plan.{portNumbered, flowNumbered}
-use Rattle.state.specs.State.{State, firstOwed}
+use Rattle.state.specs.State.{State, withSessions, firstOwed}
 use Rattle.tmavolice.specs.declared.Answer.the-variants.{Noticed}
 use Rattle.tmavolice.specs.Answer.{Sent, sends}
-use Rattle.tmavolice.specs.Frame.{withSessions}
 
 -- the port of a session's flow
 unfoldable pub portOf : State → Session → Port

@@ -6,7 +6,7 @@ use Prim.Native.Nat.{ℕ}
 use Prim.Native.String.{String}
 use lib.ListN.{length, set, take, drop}
 use lib.Dec.{leb}
-use Rattle.octets.specs.Octets.{number, octets, same}
+use Rattle.octets.specs.Octets.{lowNumber, lowOctets, same}
 use Rattle.octets.specs.Lists.{every, some, count}
 use Rattle.octets.specs.Text.{text, digit, hexed, hex}
 use Rattle.codec.specs.FrameSet.{external, cen}
@@ -24,8 +24,8 @@ yardState =
 
 -- To unfold it is to unfold all that writing and reading an image compute.
 yardImage : List ℕ
-unfolding image head bit places placeFrom table rows sessionRow flowRow portRow zeros octets okImage stateOf sessionIn flowIn portIn
-    rowsIn number same judged yardState
+unfolding image head bit places placeFrom table rows sessionRow flowRow portRow zeros lowOctets okImage stateOf sessionIn flowIn portIn
+    rowsIn lowNumber same judged yardState
 yardImage = image yardState
 
 an-image-has-4096-octets : length (image benchState) ≡ 4096
@@ -51,10 +51,10 @@ benchOctets =
     (0, "00 00 00 00")
     ∷ (32, "01 00")
     ∷ (64, "01 02 00")
-    ∷ (128, "01 01 02 00 00 00 00 01")
-    ∷ (256, "01 02 00 14 00 00 01 00 00 00 00 00 01 00 00 00")
-    ∷ (288, "01 02 00 1E 00 00 02 00 00 00 00 00 00 00 00 00")
-    ∷ (1536, "00 01 02 00 00 00 00 AA 00 00 EA 60 00 04 01 04 00 00 00 00 81 00 00 14 00 00 00 00 00 00 00 00")
+    ∷ (128, "01 00 00 00 00 02 01 01")
+    ∷ (256, "00 01 00 00 14 00 02 01 00 00 00 00 01 00 00 00")
+    ∷ (288, "00 02 00 00 1E 00 02 01 00 00 00 00 00 00 00 00")
+    ∷ (1536, "AA 00 00 00 00 02 01 00 60 EA 00 00 00 04 01 04 14 00 00 81 00 00 00 00 00 00 00 00 00 00 00 00")
     ∷ []
 
 the-bench-image : every (standsIn (image benchState)) benchOctets ≡ true
@@ -68,15 +68,15 @@ the-other-octets-are-zero = refl
 -- rows in ascending key, whatever the flows' numbers
 yardOctets : List (ℕ × String)
 yardOctets =
-    (0, "01 02 03 04 00")
+    (0, "04 03 02 01 00")
     -- flows 1, 3 and 4 are allowed; rows 2, 3, 1 and 4 are those of flows 1 to 4
     ∷ (31, "00 01 00 01 01 00")
     ∷ (63, "00 02 03 01 04 00")
-    ∷ (144, "02 02 02 00 00 00 00 02 00 00 00 00 00 00 00 00 00")
-    ∷ (255, "00 01 01 00 00 00 00 03 00 00 00 03 00 00 00 00 00")
-    ∷ (288, "01 02 00 14 00 00 01 00 00 00 00 00 01 00 00 00 00")
-    ∷ (352, "02 03 00 14 00 00 04 00 00 00 00 00 03 00 00 00 00")
-    ∷ (1568, "00 03 02 00 00 00 00 BB 00 00 00 00 08 02 00 00 00 00 00 00 00 00 00 00 00 00 00 00 00 00 00 00 00")
+    ∷ (144, "02 00 00 00 00 02 02 02 00 00 00 00 00 00 00 00 00")
+    ∷ (255, "00 00 03 00 00 00 00 01 01 00 00 03 00 00 00 00 00")
+    ∷ (288, "00 01 00 00 14 00 02 01 00 00 00 00 01 00 00 00 00")
+    ∷ (352, "00 04 00 00 14 00 03 02 00 00 00 00 03 00 00 00 00")
+    ∷ (1568, "BB 00 00 00 00 02 03 00 00 00 00 00 08 02 00 00 00 00 00 00 00 00 00 00 00 00 00 00 00 00 00 00 00")
     ∷ []
 
 the-yard-image : every (standsIn yardImage) yardOctets ≡ true
@@ -89,7 +89,7 @@ damages =
     -- behind the clock, behind the places, before the sessions
     (4, 1) ∷ (31, 1) ∷ (96, 1) ∷ (127, 1) ∷ (1280, 1) ∷ (1535, 1)
     -- in the spare octets of a port's row, of a flow's and of a session's
-    ∷ (136, 1) ∷ (143, 1) ∷ (260, 1) ∷ (261, 1) ∷ (263, 1) ∷ (272, 1) ∷ (287, 1) ∷ (1560, 1) ∷ (1567, 1)
+    ∷ (136, 1) ∷ (143, 1) ∷ (256, 1) ∷ (258, 1) ∷ (259, 1) ∷ (272, 1) ∷ (287, 1) ∷ (1543, 1) ∷ (1560, 1) ∷ (1567, 1)
     -- behind the last port, flow and session, and behind the sixteenth row
     ∷ (168, 1) ∷ (255, 1) ∷ (392, 1) ∷ (1279, 1) ∷ (1608, 1) ∷ (2047, 1) ∷ (2048, 1) ∷ (4095, 1)
     -- an allowed flow is 1; the place of flow 1, and of flow 5, which is not in the plan

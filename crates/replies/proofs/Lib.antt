@@ -1,0 +1,5 @@
+mod Examples
+pub mod Lengths
+pub mod Write
+mod Parts
+mod Whole

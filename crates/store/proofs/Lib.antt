@@ -1,0 +1,11 @@
+pub mod MapLaws
+pub mod PlaceLaws
+pub mod Steps
+pub mod Ways
+pub mod Kept
+pub mod Runs
+pub mod Tables
+pub mod Shift
+pub mod PutTable
+pub mod RemoveTable
+pub mod Images

@@ -1,0 +1,98 @@
+-- What time and a prohibition keep of a session: all but the time left and the notice.
+use mathlib.Core.Path.{_≡_, refl}
+use mathlib.Core.Bool.{Bool, true, false, cond, _&&_}
+use Prim.Native.Nat.{ℕ, _-_, _<_, _≤_, _^_}
+use native.Mathlib.Omega.{arith}
+use lib.Dec.{eqb, leb}
+use Rattle.machine.specs.declared.Session.{Session}
+use Rattle.machine.specs.Table.{active, timer-expiration, mgmt-prohibit, actionOf, expire, withdraw}
+use Rattle.machine.specs.Machine.{key, keyOf, isOpen, lasting, owed, closedBy, withdrawn}
+use Rattle.machine.specs.Time.{ticked}
+use Rattle.state.proofs.RowLaws.{SessionFits}
+
+-- y is x, with its time run down or closed
+pub record Keeps (x y : Session) : Type 0 where
+  pub flow-kept : y .flow ≡ x .flow
+  pub source-kept : y .source ≡ x .source
+  pub level-kept : y .level ≡ x .level
+  pub side-kept : y .side ≡ x .side
+  pub count-kept : y .count ≡ x .count
+  pub tag-kept : y .tag ≡ x .tag
+  pub left-less : y .left ≤ x .left
+
+-- the session with this time left and this notice
+abbrev changed : ℕ → ℕ → Session → Session
+changed ms code x =
+    record {
+      flow = x .flow;
+      source = x .source;
+      level = x .level;
+      side = x .side;
+      count = x .count;
+      tag = x .tag;
+      left = ms;
+      notice = code;
+    }
+
+keeps-changed : (ms code : ℕ) (x : Session) → ms ≤ x .left → Keeps x (changed ms code x)
+keeps-changed ms code x h =
+    record {
+      flow-kept = refl;
+      source-kept = refl;
+      level-kept = refl;
+      side-kept = refl;
+      count-kept = refl;
+      tag-kept = refl;
+      left-less = h;
+    }
+
+keeps-same : (x : Session) → Keeps x x
+keeps-same x = keeps-changed (x .left) (x .notice) x (omega arith)
+
+keeps-owed : (code : ℕ) (x : Session) → Keeps x (owed code x)
+unfolding owed
+keeps-owed code x = keeps-changed 0 code x (omega arith)
+
+keeps-lasting : (ms : ℕ) (x : Session) → ms ≤ x .left → Keeps x (lasting ms x)
+unfolding lasting
+keeps-lasting ms x h = keeps-changed ms (x .notice) x h
+
+keeps-cond : (b : Bool) {x y z : Session} → Keeps x y → Keeps x z → Keeps x (cond b y z)
+keeps-cond true p q = p
+keeps-cond false p q = q
+
+keeps-closed : (action : ℕ) (x : Session) → Keeps x (closedBy action x)
+unfolding closedBy
+keeps-closed action x =
+    keeps-cond (eqb action expire) (keeps-owed 8 x) (keeps-cond (eqb action withdraw) (keeps-owed 9 x) (keeps-same x))
+
+pub keeps-ticked : (passed : ℕ) (x : Session) → Keeps x (ticked passed x)
+unfolding ticked
+keeps-ticked passed x =
+    keeps-cond (isOpen x)
+    (keeps-cond (leb (x .left) passed)
+    (keeps-closed (actionOf active timer-expiration) x)
+    (keeps-lasting (x .left - passed) x (omega arith)))
+    (keeps-same x)
+
+pub keeps-withdrawn : (flow : ℕ) (x : Session) → Keeps x (withdrawn flow x)
+unfolding withdrawn
+keeps-withdrawn flow x =
+    keeps-cond (isOpen x && eqb (x .flow) flow) (keeps-closed (actionOf active mgmt-prohibit) x) (keeps-same x)
+
+module _ {x y : Session} (k : Keeps x y) where
+  pub kept-key : keyOf y ≡ keyOf x
+  unfolding keyOf key
+  kept-key = rw (k .flow-kept, k .source-kept)
+
+  pub kept-fits : SessionFits x → SessionFits y
+  kept-fits f =
+      record {
+        flow-fits = rw (k .flow-kept) (f .flow-fits);
+        source-fits = rw (k .source-kept) (f .source-fits);
+        left-fits = omega (arith, k .left-less, f .left-fits);
+        tag-fits = rw (k .tag-kept) (f .tag-fits);
+      }
+
+pub kept-source : {x y z : Session} → Keeps x z → y ≡ z → x .source < 2 ^ 48 → y .source < 2 ^ 48
+kept-source k e h = rw (e, k .source-kept) h

@@ -1,0 +1,66 @@
+// The row of a session, written.
+use machine::Session;
+use octets::put_at;
+ghost use mathlib.Core.Path.{_≡_};
+ghost use Prim.Native.Nat.{_+_, _<_, _≤_, _^_};
+ghost use lib.ListN.{length};
+ghost use Rattle.machine.specs.Machine.{keyOf};
+ghost use Rattle.state.specs.Image.{sessionRow};
+ghost use Rattle.store.specs.Stored.{rowPut};
+
+// Flow and source as one number.
+pub fn key_of(x: Session) -> u64
+    requires { ⌜ x .source < 2 ^ 48 ⌝ }
+    ensures { λ r. ⌜ r ≡ keyOf x ⌝ }
+{
+    x.flow as u64 * 281474976710656 + x.source
+}
+
+fn session_octets(x: Session) -> [u8; 32]
+    requires { ⌜ x .source < 2 ^ 48 ⌝ }
+    ensures { λ r. ⌜ r ≡ sessionRow x ⌝ }
+{
+    let key = key_of(x);
+    [
+        (key % 256) as u8,
+        (key / 256 % 256) as u8,
+        (key / 256 / 256 % 256) as u8,
+        (key / 256 / 256 / 256 % 256) as u8,
+        (key / 256 / 256 / 256 / 256 % 256) as u8,
+        (key / 256 / 256 / 256 / 256 / 256 % 256) as u8,
+        (key / 256 / 256 / 256 / 256 / 256 / 256 % 256) as u8,
+        (key / 256 / 256 / 256 / 256 / 256 / 256 / 256 % 256) as u8,
+        (x.left % 256) as u8,
+        (x.left / 256 % 256) as u8,
+        (x.left / 256 / 256 % 256) as u8,
+        (x.left / 256 / 256 / 256 % 256) as u8,
+        x.notice,
+        x.level,
+        x.side,
+        x.count,
+        (x.tag % 256) as u8,
+        (x.tag / 256 % 256) as u8,
+        (x.tag / 256 / 256 % 256) as u8,
+        (x.tag / 256 / 256 / 256 % 256) as u8,
+        (x.tag / 256 / 256 / 256 / 256 % 256) as u8,
+        (x.tag / 256 / 256 / 256 / 256 / 256 % 256) as u8,
+        (x.tag / 256 / 256 / 256 / 256 / 256 / 256 % 256) as u8,
+        (x.tag / 256 / 256 / 256 / 256 / 256 / 256 / 256 % 256) as u8,
+        0,
+        0,
+        0,
+        0,
+        0,
+        0,
+        0,
+        0,
+    ]
+}
+
+pub fn write_session(b: &mut [u8], at: usize, x: Session)
+    requires { ⌜ (at + 32 ≤ length (now b)) × (x .source < 2 ^ 48) ⌝ }
+    ensures { λ _. ⌜ now (b .exit) ≡ rowPut at x (now (b .entry)) ⌝ }
+{
+    let w = session_octets(x);
+    put_at(b, at, &w);
+}

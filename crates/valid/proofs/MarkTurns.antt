@@ -1,0 +1,55 @@
+-- Turns of the loops over the octets beside the flows' numbers, counted or compared with places, and over a number's octets.
+use mathlib.Core.Path.{_≡_, refl}
+use mathlib.Core.Bool.{Bool, true, false, cond, _&&_, _||_, and-true, and-assoc}
+use mathlib.Core.List.{List}
+use Prim.Native.Nat.{ℕ, suc, _+_, _-_, _/_, _%_, _<_, _≤_}
+use native.Mathlib.Nat.{add-zero, add-assoc}
+use native.Mathlib.Numerals.{add-one}
+use native.Mathlib.Omega.{arith}
+use lib.Bits.{bitOr}
+use lib.Dec.{eqb, leb}
+use lib.ListN.{length, getD, drop, drop-of-length-le}
+use lib.Seq.{drop-cons}
+use Rattle.octets.specs.Lists.{count}
+use Rattle.octets.proofs.Zero.{or-eqb}
+use Rattle.valid.specs.Pass.{octetSum, okAllowed}
+
+-- n elements below i pass the test
+pub count-turn : (test : ℕ → Bool) (l : List ℕ) (i n : ℕ) → i < length l
+    → n + cond (test (getD l i 0)) 1 0 + count test (drop (i + 1) l) ≡ n + count test (drop i l)
+unfolding count
+count-turn test l i n h = simp (add-one, drop-cons l i 0 h, add-assoc)
+
+pub count-end : (test : ℕ → Bool) (l : List ℕ) (i n : ℕ) → length l ≤ i → n + count test (drop i l) ≡ n
+unfolding count
+count-end test l i n h = simp (drop-of-length-le l h, add-zero)
+
+-- the first i octets sum to n, and x is left
+pub sum-turn : (i n x : ℕ) → i < 8 → n + x % 256 + octetSum (8 - (i + 1)) (x / 256) ≡ n + octetSum (8 - i) x
+unfolding octetSum
+sum-turn i n x h =
+    let more : 8 - i ≡ suc (8 - (i + 1)) = omega arith in
+    rw (more, add-assoc)
+
+pub sum-end : (i n x : ℕ) {X : ℕ} → 8 ≤ i → n + octetSum (8 - i) x ≡ X → n ≡ X
+unfolding octetSum
+sum-end i n x h e =
+    let none : 8 - i ≡ 0 = omega arith in
+    simp (none, add-zero) at e
+
+-- 1 where a test fails
+fault-zero : (good : Bool) → eqb (cond good 0 1) 0 ≡ good
+fault-zero true = refl
+fault-zero false = refl
+
+-- bad is the OR of what is wrong below i
+pub allowed-turn : (a p : List ℕ) (i bad w : ℕ) → i < length a → length a ≤ length p
+    → w ≡ cond (eqb (getD a i 0) 0 || (eqb (getD a i 0) 1 && leb 1 (getD p i 0))) 0 1
+    → (eqb (bitOr bad w) 0 && okAllowed (drop (i + 1) a) (drop (i + 1) p)) ≡ (eqb bad 0 && okAllowed (drop i a) (drop i p))
+unfolding okAllowed
+allowed-turn a p i bad w h k e =
+    simp (or-eqb, e, fault-zero, add-one, drop-cons a i 0 h, drop-cons p i 0 (omega arith), and-assoc)
+
+pub allowed-end : (a p : List ℕ) (i bad : ℕ) → length a ≤ i → (eqb bad 0 && okAllowed (drop i a) (drop i p)) ≡ eqb bad 0
+unfolding okAllowed
+allowed-end a p i bad h = simp (drop-of-length-le a h, and-true)

@@ -1,0 +1,64 @@
+// Is this a valid state's image?
+use crate::flows::flows_fit;
+use crate::marks::allowed_fits;
+use crate::ports::addresses_differ;
+use crate::ports::ports_fit;
+use crate::sessions::sessions_fit;
+use octets::all_zero;
+ghost use mathlib.Core.Path.{_≡_};
+ghost use mathlib.Core.Bool.{_&&_};
+ghost use mathlib.Core.List.{map};
+ghost use lib.ListN.{length, take, drop};
+ghost use Rattle.octets.specs.Octets.{allZero};
+ghost use Rattle.octets.specs.Lists.{distinct};
+ghost use Rattle.state.specs.Image.{portIn, rowsIn, okImage};
+ghost use Rattle.valid.specs.Pass.{okPorts, okFlows};
+
+// Are the octets 0 that have no meaning yet, before and behind the flows' marks and before the sessions?
+fn free_zero(b: &[u8]) -> bool
+    requires { ⌜ length (now b) ≡ 4096 ⌝ }
+    ensures { λ r. ⌜ r
+        ≡ (allZero (take 28 (drop 4 (now (b .entry))))
+        && allZero (take 32 (drop 96 (now (b .entry))))
+        && allZero (take 256 (drop 1280 (now (b .entry)))))
+        ⌝ }
+{
+    if all_zero(&b[4..32]) {
+        if all_zero(&b[96..128]) {
+            return all_zero(&b[1280..1536]);
+        }
+    }
+    false
+}
+
+fn plan_fits(b: &[u8]) -> bool
+    requires { ⌜ length (now b) ≡ 4096 ⌝ }
+    ensures { λ r. ⌜ r
+        ≡ (okPorts (take 128 (drop 128 (now (b .entry))))
+        && distinct (map (λ p. p .address) (rowsIn 8 16 portIn (take 128 (drop 128 (now (b .entry))))))
+        && okFlows (now (b .entry)) (take 1024 (drop 256 (now (b .entry)))))
+        ⌝ }
+{
+    if ports_fit(&b[128..256]) {
+        if addresses_differ(&b[128..256]) {
+            return flows_fit(b, &b[256..1280]);
+        }
+    }
+    false
+}
+
+pub fn is_image(b: &[u8]) -> bool
+    ensures { λ r. ⌜ r ≡ okImage (now (b .entry)) ⌝ }
+{
+    if b.len() != 4096 {
+        return false;
+    }
+    if free_zero(b) {
+        if plan_fits(b) {
+            if allowed_fits(&b[32..64], &b[64..96]) {
+                return sessions_fit(b, &b[1536..]);
+            }
+        }
+    }
+    false
+}

@@ -1,0 +1,9 @@
+// Is this a valid state's image? One pass over the lent octets.
+mod flows;
+mod image;
+mod marks;
+mod ports;
+mod sessions;
+
+pub use image::is_image;
+pub use sessions::faces;

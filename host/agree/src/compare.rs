@@ -1,0 +1,47 @@
+//! The comparison of library and model.
+
+use std::io::{self, Write};
+
+use image::{Reading, State};
+
+use crate::query::Query;
+
+/// Whether the octets are taken for a valid state's image. Stops the test unless library and model agree on that and
+/// on the answer, and the octets are the image of the state that the model reads.
+pub fn is_taken(octets: &[u8], query: &Query) -> bool {
+    let state = State::read(octets);
+    answer(octets, state.as_ref(), query);
+    if let Some(state) = &state {
+        let is_its_image = state.is_valid() && state.image() == octets;
+        assert!(is_its_image, "the model misreads\n{}", report(octets));
+    }
+    state.is_some()
+}
+
+/// What the library answers of the octets. Stops the test unless the model answers the same of the state that it reads
+/// there, if any.
+pub fn answer(octets: &[u8], state: Option<&State>, query: &Query) -> u64 {
+    let (library, model) = (query.library(octets), query.model(state));
+    if library != model {
+        let octets = report(octets);
+        panic!("the library answers {library:#X}, the model {model:#X}, to {query:#X?} of\n{octets}");
+    }
+    library
+}
+
+/// Octets that are not 0, sixteen a line, and what the model finds wrong with them.
+fn report(octets: &[u8]) -> String {
+    let mut report = String::new();
+    for (place, line) in octets.chunks(16).enumerate() {
+        if line.iter().any(|&octet| octet != 0) {
+            report += &format!("{:4}  {line:02X?}\n", place * 16);
+        }
+    }
+    let faults = Reading::of(octets).map(|reading| reading.faults);
+    format!("{report}{} octets; faults: {faults:?}", octets.len())
+}
+
+/// Prints a line of figures, also from a test that passes, whose usual output is not shown.
+pub fn tell(line: &str) {
+    writeln!(io::stderr(), "{line}").expect("the figures can be printed");
+}

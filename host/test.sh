@@ -1,0 +1,30 @@
+#!/bin/sh
+# Every check. First the layout of the files, every proof from nothing, every must-fail edit and every program (rt ci); then the host's
+# programs against the library as a host links it. The last line is the sum: 'N passed, M failed'.
+cd "$(dirname "$0")/.." || exit 1
+out=$(mktemp) || exit 1
+trap 'rm -f "$out"' EXIT
+passed=0 failed=0
+
+# Adds what a run reported; a run that reported nothing has failed.
+add() { # PASSED FAILED
+    passed=$((passed + ${1:-0})) failed=$((failed + ${2:-1}))
+}
+
+rt fmt --check || add 0 1
+
+rt ci >"$out" 2>&1
+cat "$out"
+# shellcheck disable=SC2046
+add $(sed -n '$s/^\([0-9]*\) passed, \([0-9]*\) failed$/\1 \2/p' "$out")
+
+if make -s -C host library programs; then add 1 0; else add 0 1; fi
+
+(cd host && cargo test --release --offline 2>&1) >"$out"
+cat "$out"
+# shellcheck disable=SC2046
+add $(sed -n 's/^test result: .* \([0-9]*\) passed; \([0-9]*\) failed;.*/\1 \2/p' "$out" |
+    awk '{ p += $1; f += $2 } END { if (NR) print p, f }')
+
+echo "$passed passed, $failed failed"
+[ "$failed" -eq 0 ]
