@@ -1,6 +1,7 @@
 -- "The plan" by example: what texts are read as.
 mod Lines
 pub mod Rules
+mod Written
 use mathlib.Core.Path.{_≡_, refl}
 use mathlib.Core.Bool.{Bool, true, cond, _&&_}
 use mathlib.Core.List.{List, [], _∷_, _++_, map, flatMap}
