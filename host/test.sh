@@ -11,6 +11,18 @@ add() { # PASSED FAILED
     passed=$((passed + ${1:-0})) failed=$((failed + ${2:-1}))
 }
 
+# One check, by its exit status.
+check() { # COMMAND..
+    if "$@"; then add 1 0; else echo "failed: $*"; add 0 1; fi
+}
+
+# Does a program write what its file says, and end well?
+writes() { # PROGRAM FILE
+    "$1" >"$out"
+    ended=$?
+    diff "$2" "$out" && [ "$ended" -eq 0 ]
+}
+
 rt fmt --check || add 0 1
 
 rt ci >"$out" 2>&1
@@ -18,7 +30,14 @@ cat "$out"
 # shellcheck disable=SC2046
 add $(sed -n '$s/^\([0-9]*\) passed, \([0-9]*\) failed$/\1 \2/p' "$out")
 
-if make -s -C host library programs; then add 1 0; else add 0 1; fi
+check make -s -C host library programs
+check make -s -C host check
+check target/host/header_c
+check target/host/header_cpp
+check writes target/host/run host/run/stdout
+check writes target/host/example host/example/stdout
+check host/quoted.sh README.md text host/run/stdout
+check host/quoted.sh docs/HOST.md c host/example/host.c
 
 (cd host && cargo test --release --offline 2>&1) >"$out"
 cat "$out"

@@ -20,7 +20,7 @@ use Rattle.machine.specs.Time.{elapsed, jumped, ticked}
 use Rattle.plan.specs.Line.{joined, parted, field, isDigit, isNumber, isAddress, spelled, numberIn, addressIn, listed, portKinds}
 use Rattle.plan.specs.Line.{flowKinds, mpKinds, asPort, asFlow, asMp, byWord, lineOf}
 use Rattle.plan.specs.Plan.{noPort, noFlow, portNumbered, flowNumbered, setKey, flowKey, flowOfSet, inPlan, mpAt, faces, mpsOf}
-use Rattle.plan.specs.Plan.{mpCount, goodAddress, goodVid, goodKind, goodPort, goodFlow, keepsRules}
+use Rattle.plan.specs.Plan.{mpCount, goodAddress, goodVid, goodKind, goodPort, goodFlow, soFar, keepsRules}
 use Rattle.plan.specs.PlanText.{portReason, flowReason, mpReason, reasonOf, withMp, added, finished, readLines, emptyPlan, planIn}
 use Rattle.state.specs.Image.{zeros, portRow, flowRow, sessionRow, rows, table, rowsIn, placeFrom, places, bit, head, image}
 use Rattle.state.specs.Image.{portIn, flowIn, sessionIn, stateOf, okImage}
@@ -51,7 +51,7 @@ unfolding within every some count first ascends put without distinct number octe
     dataEvent closedBy withdrawn allowedAfter secondsLeft statusOf conditionNumber eventNumber conditionAt eventAt actionOf
     actionAt elapsed jumped ticked joined parted field isDigit isNumber isAddress spelled numberIn addressIn listed portKinds
     flowKinds mpKinds asPort asFlow asMp byWord lineOf noPort noFlow portNumbered flowNumbered setKey flowKey flowOfSet inPlan
-    mpAt faces mpsOf mpCount goodAddress goodVid goodKind goodPort goodFlow keepsRules portReason flowReason mpReason reasonOf
+    mpAt faces mpsOf mpCount goodAddress goodVid goodKind goodPort goodFlow soFar keepsRules portReason flowReason mpReason reasonOf
     withMp added finished readLines emptyPlan planIn zeros portRow flowRow sessionRow rows table rowsIn placeFrom places bit head
     image portIn flowIn sessionIn stateOf okImage isAllowed onlyFlows goodTime goodSession valid machineOf roomFor noticeDue
     noSession firstOwed packed numberOf leaves sends run blank right benchPlan start room written toPort toTester asks activate60

@@ -8,12 +8,13 @@ use lib.Dec.{eqb}
 use lib.ListN.{length, replicate}
 use borrow.Author.Tests.{not-false, eqb-true}
 use Rattle.octets.specs.Lists.{within, every, ascends}
+use Rattle.octets.proofs.ListLaws.{within-low}
 use Rattle.codec.proofs.Places.{Octets}
 use Rattle.plan.specs.Plan.{Plan, flowNumbered, inPlan, keepsRules}
 use Rattle.plan.specs.PlanText.{Reading, fault, planned, planIn}
 use Rattle.plan.proofs.ReadKeeps.{read-keeps}
 use Rattle.state.specs.State.{State, onlyFlows, noticeDue, valid}
-use Rattle.state.proofs.Rules.{Valid, valid-parts, within-low}
+use Rattle.state.proofs.Rules.{Valid, valid-parts}
 use Rattle.calls.specs.declared.Answer.the-variants.{Refused}
 use Rattle.calls.specs.Answer.{leaves, sends}
 use Rattle.calls.specs.Notice.{noticed, noticeServed}
@@ -44,7 +45,7 @@ unfolding onlyFlows
 none-allowed plan n zero = refl
 none-allowed plan n (suc k) = none-allowed plan (n + 1) k
 
-made-valid : (plan : Plan) (clock : ℕ) → clock < 2 ^ 32 → keepsRules plan ≡ true → valid (made plan clock) ≡ true
+pub made-valid : (plan : Plan) (clock : ℕ) → clock < 2 ^ 32 → keepsRules plan ≡ true → valid (made plan clock) ≡ true
 unfolding made ascends every
 made-valid plan clock small kept =
     valid-whole (made plan clock)
@@ -76,7 +77,7 @@ restart-valid s clock small h =
 -- ---- what a call that is not refused knows
 
 -- a check that was passed
-passed : (t : Bool) (n : ℕ) (rest : ℕ) → eqb (cond t (suc n) rest) 0 ≡ true → (t ≡ false) × (eqb rest 0 ≡ true)
+pub passed : (t : Bool) (n : ℕ) (rest : ℕ) → eqb (cond t (suc n) rest) 0 ≡ true → (t ≡ false) × (eqb rest 0 ≡ true)
 passed true n rest e = absurd (omega (arith, eqb-true (suc n) 0 e))
 passed false n rest e = (refl, e)
 

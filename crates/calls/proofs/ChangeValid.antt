@@ -7,7 +7,8 @@ use native.Mathlib.Omega.{arith}
 use lib.Dec.{eqb}
 use lib.ListN.{length}
 use Rattle.octets.specs.Lists.{some, put, without}
-use Rattle.plan.proofs.PutLaws.{put-every, put-ascends}
+use Rattle.octets.proofs.Ordered.{without-ascends, without-every, without-length}
+use Rattle.octets.proofs.PutLaws.{put-every, put-ascends, put-length, put-again}
 use Rattle.machine.specs.declared.Session.{Session}
 use Rattle.machine.specs.declared.Change.{Change}
 use Rattle.machine.specs.declared.Change.the-variants.{Same, Opened, Restarted, Closed}
@@ -16,7 +17,6 @@ use Rattle.state.specs.State.{State, withSessions, goodSession, valid}
 use Rattle.state.proofs.Rules.{Valid, valid-parts}
 use Rattle.state.proofs.Fits.{good-session}
 use Rattle.calls.specs.Frame.{changed}
-use Rattle.calls.proofs.Ordered.{without-ascends, without-every, without-length, put-length, put-again}
 use Rattle.calls.proofs.Standing.{with-valid}
 
 -- is a session of this session's key there?

@@ -9,6 +9,7 @@ use lib.ListN.{length}
 use borrow.Author.Tests.{le-leb, eq-eqb}
 use Rattle.octets.specs.Lists.{within, every, some}
 use Rattle.octets.proofs.Same.{both-true}
+use Rattle.octets.proofs.ListLaws.{within-low, within-high}
 use Rattle.machine.specs.declared.Session.{Session}
 use Rattle.machine.specs.declared.Machine.{Machine}
 use Rattle.machine.specs.declared.Machine.the-variants.{Inactive, Active}
@@ -18,7 +19,6 @@ use Rattle.machine.specs.Table.{admit, restart, already, close}
 use Rattle.machine.specs.Machine.{keyOf, isOpen, lasting, goodSeconds, sameMp}
 use Rattle.machine.specs.Machine.{answered, admitted, refreshed, restarted, closed, decided}
 use Rattle.state.specs.State.{State, isAllowed, goodSession, machineOf}
-use Rattle.state.proofs.Rules.{within-low, within-high}
 use Rattle.calls.proofs.Standing.{stands, good-parts, good-whole, open-time, time-open}
 use Rattle.calls.proofs.ChangeValid.{there, GoodChange}
 

@@ -12,9 +12,9 @@ use Rattle.octets.proofs.Same.{both-true}
 use Rattle.machine.specs.declared.Session.{Session}
 use Rattle.machine.specs.Machine.{keyOf}
 use Rattle.plan.specs.Plan.{Plan, flowNumbered, inPlan}
+use Rattle.plan.proofs.Found.{flow-found}
 use Rattle.state.specs.State.{State, onlyFlows, goodSession, valid}
 use Rattle.state.proofs.Rules.{Valid, valid-parts}
-use Rattle.state.proofs.Found.{flow-found}
 use Rattle.calls.proofs.Standing.{valid-whole}
 
 pub set-true : (l : List Bool) (i j : ℕ) → getD l j false ≡ true → getD (set l i true) j false ≡ true

@@ -3,7 +3,6 @@ mod Mps
 pub mod BenchTable
 pub mod Fits
 pub mod Alone
-pub mod Ordered
 pub mod Standing
 pub mod TickValid
 pub mod Flags

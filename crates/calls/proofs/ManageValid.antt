@@ -9,7 +9,8 @@ use lib.ListN.{getD, set, length-map}
 use lib.Seq.{getD-set-other}
 use Rattle.octets.specs.Lists.{every}
 use Rattle.octets.proofs.Cases.{by-eq}
-use Rattle.plan.proofs.PutLaws.{every-map, map-ascends}
+use Rattle.octets.proofs.ListLaws.{every-map, none-fails, every-both}
+use Rattle.octets.proofs.Ordered.{map-ascends}
 use Rattle.machine.specs.declared.Session.{Session}
 use Rattle.machine.specs.declared.Machine.the-variants.{Inactive}
 use Rattle.machine.specs.Table.{active, mgmt-allow, mgmt-prohibit, actionOf}
@@ -18,7 +19,6 @@ use Rattle.plan.specs.Plan.{flowNumbered, inPlan}
 use Rattle.state.specs.State.{State, withSessions, isAllowed, goodTime, goodSession, noticeDue, valid}
 use Rattle.state.proofs.Rules.{Valid, valid-parts}
 use Rattle.calls.specs.Calls.{managed, prohibitedBy}
-use Rattle.calls.proofs.Ordered.{none-fails, every-both}
 use Rattle.calls.proofs.Standing.{stands, good-parts, good-whole, stands-flow, open-time, time-open}
 use Rattle.calls.proofs.Flags.{set-true, set-false, flagged, some-flow, flagged-valid}
 
@@ -35,11 +35,11 @@ after-prohibit true = refl
 after-prohibit false = refl
 
 module _ (s : State) (flow : ℕ) where
-  allow-flagged : managed mgmt-allow flow s ≡ flagged s flow true (s .sessions)
+  pub allow-flagged : managed mgmt-allow flow s ≡ flagged s flow true (s .sessions)
   unfolding managed
   allow-flagged = rw (after-allow (isAllowed flow s))
 
-  prohibit-flagged : prohibitedBy flow s ≡ flagged s flow false (map (withdrawn flow) (s .sessions))
+  pub prohibit-flagged : prohibitedBy flow s ≡ flagged s flow false (map (withdrawn flow) (s .sessions))
   unfolding prohibitedBy managed withSessions
   prohibit-flagged = rw (after-prohibit (isAllowed flow s))
 
@@ -70,7 +70,7 @@ module _ (s : State) (flow : ℕ) (h : valid s ≡ true) (there : inPlan (flowNu
 
     -- ---- prohibit: its sessions are owed code 9, others stay
 
-    withdrawn-key : (x : Session) → keyOf (withdrawn flow x) ≡ keyOf x
+    pub withdrawn-key : (x : Session) → keyOf (withdrawn flow x) ≡ keyOf x
     unfolding withdrawn keyOf closedBy actionOf owed
     withdrawn-key x = go (isOpen x && eqb (x .flow) flow)
       where

@@ -8,12 +8,12 @@ use lib.Dec.{eqb, ltb}
 use lib.ListN.{length, drop}
 use Rattle.octets.specs.Octets.{number}
 use Rattle.octets.specs.Lists.{within}
+use Rattle.octets.proofs.ListLaws.{within-high}
 use Rattle.codec.specs.declared.FrameSet.{FrameSet}
 use Rattle.codec.specs.declared.Place.{Place}
 use Rattle.codec.specs.declared.Place.the-variants.{NoSet, InSet}
 use Rattle.codec.specs.FrameSet.{uni, enni, untagged, c-tagged, s-tagged, c-tag, s-tag}
 use Rattle.codec.specs.FrameSet.{source, group, typeBehind, vidOf, setOf, tagged, byTag, placeOf}
-use Rattle.state.proofs.Rules.{within-high}
 
 pub record InPlace (f : List ℕ) (set : FrameSet) : Type 0 where
   pub kind-small : set .kind < 256

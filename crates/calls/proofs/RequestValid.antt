@@ -8,6 +8,7 @@ use lib.ListN.{length, drop}
 use borrow.Author.Tests.{lt-ltb, ltb-true}
 use Rattle.octets.specs.Octets.{number}
 use Rattle.octets.specs.Lists.{count}
+use Rattle.octets.proofs.ListLaws.{none-fails, all-counted}
 use Rattle.codec.specs.declared.Addressed.{Addressed}
 use Rattle.codec.specs.declared.Request.{Request}
 use Rattle.codec.specs.declared.Request.the-variants.{Malformed, Reserved, Activate, Deactivate, State as StateRequest}
@@ -23,7 +24,6 @@ use Rattle.calls.specs.declared.Answer.the-variants.{Forwarded, Dropped}
 use Rattle.calls.specs.Answer.{Sent, leaves, sends}
 use Rattle.calls.specs.Frame.{Arrived, pdu, mpOf, own, ownKey, ownAction, goesOn, newSession, replied}
 use Rattle.calls.specs.Frame.{decides, machineServed, answers, requestServed}
-use Rattle.calls.proofs.Ordered.{none-fails, all-counted}
 use Rattle.calls.proofs.Standing.{stands}
 use Rattle.calls.proofs.ChangeValid.{changed-valid}
 use Rattle.calls.proofs.DecideValid.{decided-good}

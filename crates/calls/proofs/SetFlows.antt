@@ -8,14 +8,13 @@ use lib.Dec.{eqb}
 use borrow.Author.Tests.{eqb-true, leb-true, eq-eqb, not-true}
 use Rattle.octets.specs.Lists.{within, every, some, first, distinct}
 use Rattle.octets.proofs.Same.{both-true}
+use Rattle.octets.proofs.ListLaws.{neither, within-high}
 use Rattle.codec.specs.declared.FrameSet.{FrameSet}
 use Rattle.codec.specs.FrameSet.{uni, enni, untagged, c-tagged, s-tagged}
 use Rattle.plan.specs.declared.Flow.{Flow}
 use Rattle.plan.specs.Plan.{Plan, noFlow, flowNumbered, flowOfSet, setKey, flowKey, inPlan}
 use Rattle.plan.specs.Plan.{goodVid, goodKind, goodFlow, keepsRules}
-use Rattle.plan.proofs.PutLaws.{neither}
-use Rattle.plan.proofs.Kept.{GoodFlow, good-flow}
-use Rattle.state.proofs.Rules.{Rules, rules, within-high}
+use Rattle.plan.proofs.Kept.{GoodFlow, good-flow, Kept, rules}
 
 -- what is found by a test, among elements of distinct numbers
 module _ {A : Type 0} (number : A → ℕ) (other : A) (none : number other ≡ 0) (test : A → Bool) where
@@ -30,7 +29,7 @@ module _ {A : Type 0} (number : A → ℕ) (other : A) (none : number other ≡ 
   nothing h = absurd (omega (arith, none, leb-true 1 (number other) h))
 
   -- it passes that test and what each passes
-  found-passes : (told : A → Bool) (xs : List A) → every told xs ≡ true → There xs
+  pub found-passes : (told : A → Bool) (xs : List A) → every told xs ≡ true → There xs
       → (test (found xs) ≡ true) × (told (found xs) ≡ true)
   unfolding first every
   found-passes told [] a h = nothing h
@@ -58,7 +57,7 @@ module _ {A : Type 0} (number : A → ℕ) (other : A) (none : number other ≡ 
       go false n h r = r h
 
   -- and by its number it is found again
-  found-again : (xs : List A) → distinct (map number xs) ≡ true → There xs
+  pub found-again : (xs : List A) → distinct (map number xs) ≡ true → There xs
       → first (λ x. eqb (number x) (number (found xs))) other xs ≡ found xs
   unfolding first distinct
   found-again [] d h = nothing h
@@ -74,7 +73,7 @@ module _ {A : Type 0} (number : A → ℕ) (other : A) (none : number other ≡ 
 
 -- ---- a flow
 
-kind-small : (kind port : ℕ) → goodKind kind port ≡ true → kind < 256
+pub kind-small : (kind port : ℕ) → goodKind kind port ≡ true → kind < 256
 unfolding goodKind
 kind-small kind port h = go (eqb kind untagged) (eqb kind c-tagged) (eqb kind s-tagged) refl refl refl h
   where
@@ -85,7 +84,7 @@ kind-small kind port h = go (eqb kind untagged) (eqb kind c-tagged) (eqb kind s-
     go false false true eu ec es h = omega (arith, eqb-true kind s-tagged es)
     go false false false eu ec es h = let z : _≡_ {A = ℕ} 0 1 = cc in absurd (omega arith)
 
-vid-small : (kind vid : ℕ) → goodVid kind vid ≡ true → vid < 65536
+pub vid-small : (kind vid : ℕ) → goodVid kind vid ≡ true → vid < 65536
 unfolding goodVid
 vid-small kind vid h = go (eqb kind untagged) h
   where
@@ -102,7 +101,7 @@ pub of-set : (plan : Plan) (port : ℕ) (set : FrameSet) → keepsRules plan ≡
     → inPlan (flowOfSet port set plan .number) ≡ true → OfSet plan set (flowOfSet port set plan)
 unfolding flowOfSet flowNumbered flowKey setKey noFlow
 of-set plan port set k kinds vids there =
-    let r : Rules plan = rules plan k in
+    let r : Kept plan = rules plan k in
     let f : Flow = flowOfSet port set plan in
     let test : Flow → Bool = λ f. eqb (flowKey f) (setKey port (set .kind) (set .vid)) in
     let p : _ = found-passes (λ (f : Flow). f .number) noFlow refl test (goodFlow plan) (plan .flows) (r .flows-good) there in

@@ -13,9 +13,9 @@ use Rattle.codec.specs.FrameSet.{group, setOf, tagFits}
 use Rattle.machine.specs.declared.Session.{Session}
 use Rattle.machine.specs.Machine.{keyOf, isOpen}
 use Rattle.plan.specs.Plan.{Plan, flowNumbered, inPlan, mpAt, faces}
+use Rattle.plan.proofs.Found.{flow-found}
 use Rattle.state.specs.State.{State, withSessions, isAllowed, goodTime, goodSession, valid}
 use Rattle.state.proofs.Rules.{Valid, valid-parts}
-use Rattle.state.proofs.Found.{flow-found}
 
 -- Where a session stands: its flow is in the plan, its source is unicast, its tag is of its flow's set, and an MP at its level
 -- faces its side.

@@ -7,14 +7,15 @@ use lib.ListN.{length-map}
 use borrow.Author.Tests.{le-leb}
 use Rattle.octets.specs.Lists.{within}
 use Rattle.octets.proofs.Cases.{by-eq, by-le}
-use Rattle.plan.proofs.PutLaws.{every-such, every-map, map-ascends}
+use Rattle.octets.proofs.ListLaws.{every-such, every-map, within-high}
+use Rattle.octets.proofs.Ordered.{map-ascends}
 use Rattle.machine.specs.declared.Session.{Session}
 use Rattle.machine.specs.Table.{actionOf}
 use Rattle.machine.specs.Machine.{keyOf, isOpen, lasting, owed, closedBy}
 use Rattle.machine.specs.Time.{elapsed, ticked}
 use Rattle.plan.specs.Plan.{Plan}
 use Rattle.state.specs.State.{State, isAllowed, goodTime, goodSession, valid}
-use Rattle.state.proofs.Rules.{Valid, valid-parts, within-high}
+use Rattle.state.proofs.Rules.{Valid, valid-parts}
 use Rattle.calls.specs.Calls.{tickedTo}
 use Rattle.calls.proofs.Standing.{stands, good-parts, good-whole, open-time, valid-whole}
 
@@ -27,7 +28,7 @@ module _ (e : ℕ) (x : Session) where
       (λ q none. by-le (x .left) e (λ l h. rw (q, l) ended) (λ l h. rw (q, l) on))
       (λ q due. rw q same)
 
-  ticked-key : keyOf (ticked e x) ≡ keyOf x
+  pub ticked-key : keyOf (ticked e x) ≡ keyOf x
   unfolding keyOf lasting owed
   ticked-key = ways (λ y. keyOf y ≡ keyOf x) refl refl refl
 

@@ -1,5 +1,6 @@
 mod FrameSetExamples
 mod RequestExamples
+mod LaterExamples
 pub mod Short
 pub mod Walk
 mod Sum
@@ -8,3 +9,8 @@ mod Copy
 pub mod After
 pub mod Places
 pub mod Said
+pub mod LaterList
+pub mod LaterTlvs
+pub mod LaterRead
+pub mod LaterLaws
+pub mod LaterEvery

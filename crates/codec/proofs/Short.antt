@@ -2,7 +2,7 @@
 use mathlib.Core.Path.{_≡_, refl, sym}
 use mathlib.Core.Bool.{Bool, true, false, cond, not, _||_, false≢true}
 use mathlib.Core.List.{List, [], _∷_, _++_}
-use Prim.Native.Nat.{ℕ, zero, suc, _+_, _-_, _≤_}
+use Prim.Native.Nat.{ℕ, zero, suc, _+_, _≤_}
 use native.Mathlib.Omega.{arith}
 use lib.Dec.{leb, ltb, eqb}
 use lib.ListN.{length, take, drop, length-append, length-drop}
@@ -62,11 +62,11 @@ pub parse-short : (l : List ℕ) → parse l .bad ≡ false → length (unknown 
 unfolding parse
 parse-short l h = walk-short l 0 h
 
-or-none : (a b : Bool) → (a || b) ≡ false → (a ≡ false) × (b ≡ false)
+pub or-none : (a b : Bool) → (a || b) ≡ false → (a ≡ false) × (b ≡ false)
 or-none false b e = (refl, e)
 or-none true b e = absurd (false≢true (sym e))
 
-offset-high : (pdu : List ℕ) → wrongOffset pdu ≡ false → 8 ≤ offsetOf pdu
+pub offset-high : (pdu : List ℕ) → wrongOffset pdu ≡ false → 8 ≤ offsetOf pdu
 unfolding wrongOffset
 offset-high pdu h = go (eqb (versionOf pdu) 0) h
   where
@@ -74,21 +74,40 @@ offset-high pdu h = go (eqb (versionOf pdu) 0) h
     go true e = omega (arith, eqb-true (offsetOf pdu) 8 (not-false (eqb (offsetOf pdu) 8) e))
     go false e = ltb-false (offsetOf pdu) 8 e
 
-whole-list : (p : Parsed) → badList p ≡ false → p .bad ≡ false
+pub good-list : (p : Parsed) → badList p ≡ false → (p .bad ≡ false) × (some badTlv (p .tlvs) ≡ false)
 unfolding badList
-whole-list p h =
+good-list p h =
     let few : Bool = leb 2 (length (timers (p .tlvs))) in
-    or-none (p .bad) (some badTlv (p .tlvs)) (or-none (p .bad || some badTlv (p .tlvs)) few h .0) .0
+    or-none (p .bad) (some badTlv (p .tlvs)) (or-none (p .bad || some badTlv (p .tlvs)) few h .0)
 
--- what a reply copies of a well-formed request leaves 13 of its octets: the header and the End
-pub copies-short : (whom : Addressed) (to : ℕ) (pdu : List ℕ) → malformed whom to pdu ≡ false
-    → length (copiesOf pdu) + 13 ≤ length pdu
-unfolding malformed copiesOf tlvsOf
-copies-short whom to pdu h =
+-- what is so of a request that is not malformed
+pub record Formed (whom : Addressed) (to : ℕ) (pdu : List ℕ) : Type 0 where
+  pub mac : wrongMac whom to pdu ≡ false
+  pub offset : wrongOffset pdu ≡ false
+  pub list : badList (tlvsOf pdu) ≡ false
+  pub timer : untimed pdu ≡ false
+
+pub formed : (whom : Addressed) (to : ℕ) (pdu : List ℕ) → malformed whom to pdu ≡ false → Formed whom to pdu
+unfolding malformed
+formed whom to pdu h =
     let a : Bool = wrongMac whom to pdu in
     let b : Bool = wrongOffset pdu in
     let c : Bool = badList (tlvsOf pdu) in
     let abc : (a || b || c) ≡ false = or-none (a || b || c) (untimed pdu) h .0 in
-    let far : 8 ≤ offsetOf pdu = offset-high pdu (or-none a b (or-none (a || b) c abc .0) .1) in
-    let whole : tlvsOf pdu .bad ≡ false = whole-list (tlvsOf pdu) (or-none (a || b) c abc .1) in
+    let ab : (a || b) ≡ false = or-none (a || b) c abc .0 in
+    record {
+      mac = or-none a b ab .0;
+      offset = or-none a b ab .1;
+      list = or-none (a || b) c abc .1;
+      timer = or-none (a || b || c) (untimed pdu) h .1;
+    }
+
+-- what a reply copies of a well-formed request leaves 13 of its octets: the header and the End
+pub copies-short : (whom : Addressed) (to : ℕ) (pdu : List ℕ) → malformed whom to pdu ≡ false
+    → length (copiesOf pdu) + 13 ≤ length pdu
+unfolding copiesOf tlvsOf
+copies-short whom to pdu h =
+    let f : Formed whom to pdu = formed whom to pdu h in
+    let far : 8 ≤ offsetOf pdu = offset-high pdu (f .offset) in
+    let whole : tlvsOf pdu .bad ≡ false = good-list (tlvsOf pdu) (f .list) .0 in
     omega (arith, parse-short (drop (4 + offsetOf pdu) pdu) whole, far, length-drop (4 + offsetOf pdu) pdu)

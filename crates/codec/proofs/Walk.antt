@@ -16,7 +16,7 @@ use Rattle.codec.specs.Walk.{stepAt, tlvOf}
 use Rattle.codec.specs.declared.tlv.Step.{Step}
 use Rattle.codec.specs.declared.tlv.Step.the-variants.{Tlv as Found, End, Bad}
 
-walk-drop : (n : ℕ) (l : List ℕ) → walk n l ≡ walk 0 (drop n l)
+pub walk-drop : (n : ℕ) (l : List ℕ) → walk n l ≡ walk 0 (drop n l)
 unfolding walk
 walk-drop zero l = refl
 walk-drop (suc n) [] = refl
@@ -29,7 +29,7 @@ byStep l End = ended
 byStep l Bad = cut
 
 -- a drop in two steps, at a place that is known by an equation
-drop-to : (m n k : ℕ) (l : List ℕ) → n + m ≡ k → drop m (drop n l) ≡ drop k l
+pub drop-to : (m n k : ℕ) (l : List ℕ) → n + m ≡ k → drop m (drop n l) ≡ drop k l
 drop-to m n k l e = drop-drop m n l ∙ ap (λ (j : ℕ). drop j l) e
 
 same-leb : (a b c d : ℕ) → (a ≤ b → c ≤ d) → (c ≤ d → a ≤ b) → leb a b ≡ leb c d

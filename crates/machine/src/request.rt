@@ -7,7 +7,7 @@ use crate::running::lasting;
 use crate::running::status_of;
 use codec::Status;
 ghost use mathlib.Core.Path.{_≡_};
-ghost use Prim.Native.Nat.{_*_, _≤_, _<_};
+ghost use Prim.Native.Nat.{_*_, _<_};
 ghost use Rattle.machine.specs.Machine.{answered, admitted, sameMp, restarted, refreshed, closed, decided, after, statusOf};
 
 // A failed request changes nothing.

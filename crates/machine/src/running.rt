@@ -3,7 +3,7 @@ use crate::Machine;
 use crate::Session;
 use codec::Status;
 ghost use mathlib.Core.Path.{_≡_};
-ghost use Prim.Native.Nat.{_+_, _≤_};
+ghost use Prim.Native.Nat.{_+_};
 ghost use Rattle.machine.specs.Machine.{lasting, owed, withdrawn, secondsLeft, statusOf};
 
 pub fn lasting(ms: u32, s: Session) -> Session

@@ -4,6 +4,10 @@ pub mod Round
 pub mod Over
 pub mod Same
 pub mod Zero
+pub mod ListLaws
+pub mod Ordered
+pub mod PutLaws
+pub mod Few
 pub mod Moving
 mod Examples
 pub mod LowLaws

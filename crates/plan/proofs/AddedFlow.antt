@@ -8,13 +8,13 @@ use lib.ListN.{replicate}
 use borrow.Author.Tests.{leb-true, le-leb}
 use Rattle.octets.specs.Lists.{every, count, put}
 use Rattle.octets.proofs.Cases.{by-eq, by-lt}
+use Rattle.octets.proofs.ListLaws.{within-low}
+use Rattle.octets.proofs.PutLaws.{put-every, put-ascends, put-distinct}
 use Rattle.plan.specs.declared.Flow.{Flow}
-use Rattle.plan.specs.Plan.{Plan, portNumbered, setKey, flowKey, mpsOf, mpCount, goodFlow}
+use Rattle.plan.specs.Plan.{Plan, portNumbered, setKey, flowKey, mpsOf, mpCount, goodFlow, soFar}
 use Rattle.plan.specs.Line.{flowLine}
 use Rattle.plan.specs.PlanText.{added}
-use Rattle.plan.specs.SoFar.{soFar}
-use Rattle.plan.proofs.PutLaws.{put-every, put-ascends, put-distinct}
-use Rattle.plan.proofs.Kept.{Kept, kept, so-far, within-low, flow-good}
+use Rattle.plan.proofs.Kept.{Kept, kept, so-far, flow-good}
 use Rattle.plan.proofs.Faultless.{FaultlessFlow}
 use Rattle.plan.proofs.Room.{flow-absent}
 

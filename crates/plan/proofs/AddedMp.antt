@@ -10,13 +10,14 @@ use borrow.Author.Tests.{leb-false, le-leb, not-true}
 use Rattle.octets.specs.Lists.{every, some, count, distinct}
 use Rattle.octets.proofs.Same.{both-true}
 use Rattle.octets.proofs.Cases.{by-eq}
+use Rattle.octets.proofs.ListLaws.{every-such, every-map, map-same, map-none, some-map, within-high}
+use Rattle.octets.proofs.Ordered.{map-ascends}
 use Rattle.plan.specs.declared.Flow.{Flow}
-use Rattle.plan.specs.Plan.{Plan, up, mip, portNumbered, flowKey, mpsOf, mpCount, goodFlow}
+use Rattle.plan.specs.Plan.{Plan, up, mip, portNumbered, flowKey, mpsOf, mpCount, goodFlow, soFar}
 use Rattle.plan.specs.Line.{mpLine}
 use Rattle.plan.specs.PlanText.{withMp, added}
-use Rattle.plan.specs.SoFar.{soFar, fairLine}
-use Rattle.plan.proofs.PutLaws.{every-such, every-map, map-same, map-none, map-ascends, some-map}
-use Rattle.plan.proofs.Kept.{Kept, kept, so-far, within-high, GoodFlow, good-flow, flow-good}
+use Rattle.plan.proofs.Fair.{fairLine}
+use Rattle.plan.proofs.Kept.{Kept, kept, so-far, GoodFlow, good-flow, flow-good}
 use Rattle.plan.proofs.Faultless.{FaultlessMp}
 
 set-every : (test : ℕ → Bool) (x : ℕ) (l : List ℕ) (i : ℕ) → test x ≡ true → every test l ≡ true → every test (set l i x) ≡ true

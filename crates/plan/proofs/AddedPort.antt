@@ -6,15 +6,16 @@ use lib.Dec.{eqb, ltb}
 use Rattle.octets.specs.Lists.{within}
 use Rattle.octets.proofs.Same.{both-true}
 use Rattle.octets.proofs.Cases.{by-eq}
+use Rattle.octets.proofs.ListLaws.{every-such, within-low}
+use Rattle.octets.proofs.PutLaws.{put-every, put-ascends, put-first, put-distinct}
 use Rattle.codec.specs.FrameSet.{uni, enni}
 use Rattle.plan.specs.declared.Port.{Port}
 use Rattle.plan.specs.declared.Flow.{Flow}
-use Rattle.plan.specs.Plan.{Plan, noPort, portNumbered, goodPort, goodFlow}
+use Rattle.plan.specs.Plan.{Plan, noPort, portNumbered, goodPort, goodFlow, soFar}
 use Rattle.plan.specs.Line.{portLine}
 use Rattle.plan.specs.PlanText.{added}
-use Rattle.plan.specs.SoFar.{soFar, fairLine}
-use Rattle.plan.proofs.PutLaws.{every-such, put-every, put-ascends, put-first, put-distinct}
-use Rattle.plan.proofs.Kept.{Kept, kept, so-far, within-low, good-flow}
+use Rattle.plan.proofs.Fair.{fairLine}
+use Rattle.plan.proofs.Kept.{Kept, kept, so-far, good-flow}
 use Rattle.plan.proofs.Faultless.{FaultlessPort}
 
 -- A flow is judged by its port alone.

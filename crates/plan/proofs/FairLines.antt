@@ -12,12 +12,12 @@ use Rattle.octets.specs.Octets.{same}
 use Rattle.octets.specs.Lists.{within, every}
 use Rattle.octets.specs.Text.{text, digit}
 use Rattle.octets.proofs.Same.{both-true}
+use Rattle.octets.proofs.ListLaws.{within-low, within-high}
 use Rattle.codec.specs.FrameSet.{uni, enni, untagged, s-tagged}
 use Rattle.plan.specs.Plan.{up, mip}
 use Rattle.plan.specs.Line.{Line, unreadable, field, isDigit, isNumber, isAddress, spelled, addressIn, listed}
 use Rattle.plan.specs.Line.{tab, parted, portKinds, flowKinds, mpKinds, asPort, asFlow, asMp, byWord, lineOf}
-use Rattle.plan.specs.SoFar.{fairLine}
-use Rattle.plan.proofs.Kept.{within-low, within-high}
+use Rattle.plan.proofs.Fair.{fairLine}
 
 -- a word that is listed has one of the listed places
 two-listed : (a b : Bool) → leb 1 (cond a 1 (cond b 2 0)) ≡ true → within 1 2 (cond a 1 (cond b 2 0)) ≡ true

@@ -6,11 +6,11 @@ use native.Mathlib.Omega.{arith}
 use lib.Dec.{eqb, leb}
 use borrow.Author.Tests.{not-false}
 use Rattle.octets.specs.Lists.{within, some}
+use Rattle.octets.proofs.ListLaws.{neither}
 use Rattle.codec.specs.FrameSet.{setOf}
 use Rattle.plan.specs.Plan.{Plan, portNumbered, flowNumbered, flowOfSet, inPlan, mpAt, mpCount}
 use Rattle.plan.specs.Plan.{goodAddress, goodVid, goodKind}
 use Rattle.plan.specs.PlanText.{portReason, flowReason, mpReason}
-use Rattle.plan.proofs.PutLaws.{neither}
 
 -- a test for another reason failed
 passed : (b : Bool) (r x : ℕ) → cond b (suc r) x ≡ 0 → (b ≡ false) × (x ≡ 0)

@@ -10,7 +10,8 @@ use Rattle.octets.specs.Lists.{within, every, first}
 use Rattle.octets.proofs.Same.{both-true}
 use Rattle.octets.proofs.Cases.{by-eq}
 use Rattle.plan.specs.declared.Port.{Port}
-use Rattle.plan.specs.Plan.{Plan, noPort, portNumbered, inPlan, goodPort}
+use Rattle.plan.specs.declared.Flow.{Flow}
+use Rattle.plan.specs.Plan.{Plan, noPort, noFlow, portNumbered, flowNumbered, inPlan, goodPort}
 use Rattle.plan.proofs.Kept.{good-port}
 
 module _ {A : Type 0} (number : A → ℕ) (other : A) (none : number other ≡ 0) (n : ℕ) where
@@ -32,11 +33,26 @@ module _ {A : Type 0} (number : A → ℕ) (other : A) (none : number other ≡ 
       by-eq (number x) n (λ e same. rw e (b .0))
       (λ e diff. let g : inPlan (number (found l)) ≡ true = rw e at h in rw e (found-passes test l (b .1) g))
 
+pub port-found : (plan : Plan) (n : ℕ) → inPlan (portNumbered n plan .number) ≡ true → portNumbered n plan .number ≡ n
+unfolding portNumbered noPort
+port-found plan n h = found-number (λ (p : Port). p .number) noPort refl n (plan .ports) h
+
+pub flow-found : (plan : Plan) (n : ℕ) → inPlan (flowNumbered n plan .number) ≡ true → flowNumbered n plan .number ≡ n
+unfolding flowNumbered noFlow
+flow-found plan n h = found-number (λ (f : Flow). f .number) noFlow refl n (plan .flows) h
+
+port-passes : (plan : Plan) (test : Port → Bool) (n : ℕ) → every test (plan .ports) ≡ true
+    → inPlan (portNumbered n plan .number) ≡ true → test (portNumbered n plan) ≡ true
+unfolding portNumbered noPort
+port-passes plan test n a h = found-passes (λ (p : Port). p .number) noPort refl n test (plan .ports) a h
+
+pub flow-passes : (plan : Plan) (test : Flow → Bool) (n : ℕ) → every test (plan .flows) ≡ true
+    → inPlan (flowNumbered n plan .number) ≡ true → test (flowNumbered n plan) ≡ true
+unfolding flowNumbered noFlow
+flow-passes plan test n a h = found-passes (λ (f : Flow). f .number) noFlow refl n test (plan .flows) a h
+
 -- the number of a port that is there
 pub port-number : (plan : Plan) (n : ℕ) → every goodPort (plan .ports) ≡ true → inPlan (portNumbered n plan .number) ≡ true
     → within 1 8 n ≡ true
-unfolding portNumbered noPort
 port-number plan n g h =
-    let number : Port → ℕ = λ p. p .number in
-    let e : portNumbered n plan .number ≡ n = found-number number noPort refl n (plan .ports) h in
-    rw e at (good-port (portNumbered n plan) (found-passes number noPort refl n goodPort (plan .ports) g h) .number-fits)
+    rw (port-found plan n h) at (good-port (portNumbered n plan) (port-passes plan goodPort n g h) .number-fits)

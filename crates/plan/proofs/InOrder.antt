@@ -8,7 +8,7 @@ use lib.Dec.{eqb, ltb}
 use borrow.Author.Tests.{ltb-true, lt-ltb, ne-eqb, not-true}
 use Rattle.octets.specs.Lists.{every, some, first, ascends, distinct}
 use Rattle.octets.proofs.Same.{both-true}
-use Rattle.plan.proofs.PutLaws.{neither, eqb-turn, some-map}
+use Rattle.octets.proofs.ListLaws.{neither, eqb-turn, some-map}
 
 module _ {A : Type 0} where
   pub some-under : {B : Type 0} (test : B → Bool) (g : A → B) (l : List A) → some test (map g l) ≡ some (λ x. test (g x)) l

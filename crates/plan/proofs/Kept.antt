@@ -1,27 +1,18 @@
 -- The plan's rules one by one, of a plan and of its records.
-use mathlib.Core.Path.{_≡_, refl, sym, _∙_}
-use mathlib.Core.Bool.{Bool, true, false, _&&_}
-use mathlib.Core.List.{map}
-use Prim.Native.Nat.{ℕ, _^_, _≤_}
+use mathlib.Core.Path.{_≡_}
+use mathlib.Core.Bool.{Bool, true, _&&_}
+use mathlib.Core.List.{List, map}
+use Prim.Native.Nat.{_^_}
 use lib.Dec.{eqb, ltb, leb}
 use lib.ListN.{length}
-use borrow.Author.Tests.{leb-true}
 use Rattle.octets.specs.Lists.{within, every, ascends, distinct}
 use Rattle.octets.proofs.Same.{both-true}
+use Rattle.octets.proofs.ListLaws.{every-such}
 use Rattle.codec.specs.FrameSet.{uni, enni}
 use Rattle.plan.specs.declared.Port.{Port}
 use Rattle.plan.specs.declared.Flow.{Flow}
 use Rattle.plan.specs.Plan.{Plan, mip, portNumbered, flowKey, inPlan, mpCount, goodAddress, goodVid, goodKind}
-use Rattle.plan.specs.Plan.{goodPort, goodFlow, keepsRules}
-use Rattle.plan.specs.SoFar.{soFar}
-
-pub within-low : (low high x : ℕ) → within low high x ≡ true → low ≤ x
-unfolding within
-within-low low high x h = leb-true low x (both-true (leb low x) (leb x high) h .0)
-
-pub within-high : (low high x : ℕ) → within low high x ≡ true → x ≤ high
-unfolding within
-within-high low high x h = leb-true x high (both-true (leb low x) (leb x high) h .1)
+use Rattle.plan.specs.Plan.{goodPort, goodFlow, soFar, keepsRules}
 
 pub record Kept (plan : Plan) : Type 0 where
   pub ports-ascend : ascends (λ p. p .number) 0 (plan .ports) ≡ true
@@ -63,22 +54,16 @@ so-far plan k =
     rw (k .ports-ascend, k .ports-good, k .addresses, k .flows-ascend, k .flows-good, k .numbers, k .mps-few)
 
 -- The rules are those and at least one port.
-rules-split : (plan : Plan) → keepsRules plan ≡ (leb 1 (length (plan .ports)) && soFar plan)
-unfolding keepsRules soFar
-rules-split plan =
-    first-apart (leb 1 (length (plan .ports))) (ascends (λ p. p .number) 0 (plan .ports)) (every goodPort (plan .ports))
-    (distinct (map (λ p. p .address) (plan .ports))) (ascends flowKey 0 (plan .flows)) (every (goodFlow plan) (plan .flows))
-    (distinct (map (λ f. f .number) (plan .flows))) (leb (mpCount (plan .flows)) 32)
-  where
-    first-apart : (a b c d e f g h : Bool) → (a && b && c && d && e && f && g && h) ≡ (a && (b && c && d && e && f && g && h))
-    first-apart true b c d e f g h = refl
-    first-apart false b c d e f g h = refl
-
 pub rules-kept : (plan : Plan) → leb 1 (length (plan .ports)) ≡ true → soFar plan ≡ true → keepsRules plan ≡ true
-rules-kept plan one k = rw (rules-split plan, one) k
+unfolding keepsRules
+rules-kept plan one k = rw one k
 
 pub rules-so-far : (plan : Plan) → keepsRules plan ≡ true → (leb 1 (length (plan .ports)) ≡ true) × (soFar plan ≡ true)
-rules-so-far plan k = both-true (leb 1 (length (plan .ports))) (soFar plan) (sym (rules-split plan) ∙ k)
+unfolding keepsRules
+rules-so-far plan k = both-true (leb 1 (length (plan .ports))) (soFar plan) k
+
+pub rules : (plan : Plan) → keepsRules plan ≡ true → Kept plan
+rules plan k = kept plan (rules-so-far plan k .1)
 
 pub record GoodPort (p : Port) : Type 0 where
   pub number-fits : within 1 8 (p .number) ≡ true
@@ -130,3 +115,7 @@ good-flow plan f h =
 pub flow-good : (plan : Plan) (f : Flow) → GoodFlow plan f → goodFlow plan f ≡ true
 unfolding goodFlow
 flow-good plan f g = rw (g .number-fits, g .port-there, g .kind-fits, g .vid-fits, g .mps-long, g .mps-fit)
+
+pub good-numbers : (plan : Plan) (fs : List Flow) → every (goodFlow plan) fs ≡ true
+    → every (λ f. within 1 32 (f .number)) fs ≡ true
+good-numbers plan fs h = every-such (goodFlow plan) (λ f. within 1 32 (f .number)) (λ f g. good-flow plan f g .number-fits) fs h

@@ -1,12 +1,11 @@
 pub mod Examples
-pub mod PutLaws
-pub mod Few
 pub mod Kept
 pub mod Faultless
 pub mod Room
 pub mod AddedPort
 pub mod AddedFlow
 pub mod AddedMp
+pub mod Fair
 pub mod FairLines
 pub mod ReadKeeps
 pub mod Found
@@ -20,16 +19,4 @@ pub mod WrittenPorts
 pub mod WrittenFlows
 pub mod WrittenLevels
 pub mod WrittenRead
-mod Spelling
-mod Numbers
-mod Parts
-mod Cutting
-mod ByFields
-mod Words
-mod HeldLaws
-mod SeekLaws
-mod CapLaws
-mod ReasonLaws
-mod InsertLaws
-mod AddLaws
-mod ReadLaws
+pub mod HeldLaws

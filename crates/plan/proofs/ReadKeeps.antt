@@ -8,10 +8,10 @@ use lib.ListN.{length}
 use borrow.Author.Tests.{le-leb}
 use Rattle.octets.specs.Lists.{every, ascends, distinct}
 use Rattle.octets.proofs.Cases.{by-eq, by-lt}
-use Rattle.plan.specs.Plan.{Plan, mpCount, keepsRules}
+use Rattle.plan.specs.Plan.{Plan, mpCount, keepsRules, soFar}
 use Rattle.plan.specs.Line.{Line, unreadable, portLine, flowLine, mpLine, lineOf, parted, lf}
 use Rattle.plan.specs.PlanText.{Reading, fault, planned, reasonOf, added, finished, readLines, emptyPlan, planIn}
-use Rattle.plan.specs.SoFar.{soFar, fairLine}
+use Rattle.plan.proofs.Fair.{fairLine}
 use Rattle.plan.proofs.Kept.{rules-kept}
 use Rattle.plan.proofs.Faultless.{port-cleared, flow-cleared, mp-cleared}
 use Rattle.plan.proofs.AddedPort.{port-keeps}

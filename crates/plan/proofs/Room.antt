@@ -7,15 +7,15 @@ use lib.Dec.{eqb, leb}
 use lib.ListN.{length}
 use borrow.Author.Tests.{le-leb}
 use Rattle.octets.specs.Lists.{within, every, some, distinct}
+use Rattle.octets.proofs.ListLaws.{every-such, none-there, within-low}
+use Rattle.octets.proofs.Ordered.{ascends-distinct}
+use Rattle.octets.proofs.Few.{few, room}
 use Rattle.codec.specs.FrameSet.{setOf}
 use Rattle.plan.specs.declared.Port.{Port}
 use Rattle.plan.specs.declared.Flow.{Flow}
 use Rattle.plan.specs.Plan.{Plan, noPort, noFlow, portNumbered, flowNumbered, flowOfSet, setKey, flowKey, inPlan}
-use Rattle.plan.specs.Plan.{goodPort, goodFlow}
-use Rattle.plan.specs.SoFar.{soFar}
-use Rattle.plan.proofs.PutLaws.{every-such, none-there}
-use Rattle.plan.proofs.Few.{ascends-distinct, few, room}
-use Rattle.plan.proofs.Kept.{Kept, kept, within-low, good-port, good-flow}
+use Rattle.plan.specs.Plan.{goodPort, goodFlow, soFar}
+use Rattle.plan.proofs.Kept.{Kept, kept, good-port, good-flow, good-numbers}
 
 port-named : (p : Port) → goodPort p ≡ true → leb 1 (p .number) ≡ true
 port-named p g = le-leb 1 (p .number) (within-low 1 8 (p .number) (good-port p g .number-fits))
@@ -52,9 +52,7 @@ module _ (plan : Plan) (h : soFar plan ≡ true) where
   ports-fit = every-such goodPort (λ p. within 1 8 (p .number)) (λ p g. good-port p g .number-fits) (plan .ports) (k .ports-good)
 
   flows-fit : every (λ f. within 1 32 (f .number)) (plan .flows) ≡ true
-  flows-fit =
-      every-such (goodFlow plan) (λ f. within 1 32 (f .number)) (λ f g. good-flow plan f g .number-fits) (plan .flows)
-      (k .flows-good)
+  flows-fit = good-numbers plan (plan .flows) (k .flows-good)
 
   ports-apart : distinct (map (λ p. p .number) (plan .ports)) ≡ true
   ports-apart = ascends-distinct (λ p. p .number) 0 (plan .ports) (k .ports-ascend)

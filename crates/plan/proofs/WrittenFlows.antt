@@ -7,13 +7,14 @@ use lib.Dec.{eqb, ltb}
 use lib.ListN.{replicate}
 use Rattle.octets.specs.Lists.{within, every, some}
 use Rattle.octets.proofs.Cases.{by-eq}
+use Rattle.octets.proofs.ListLaws.{not-found, every-map}
+use Rattle.octets.proofs.PutLaws.{put-last}
 use Rattle.codec.specs.FrameSet.{untagged, c-tagged, s-tagged, setOf}
 use Rattle.plan.specs.declared.Flow.{Flow}
-use Rattle.plan.specs.Plan.{Plan, noFlow, portNumbered, flowNumbered, flowOfSet, flowKey, inPlan, goodKind, goodFlow}
+use Rattle.plan.specs.Plan.{Plan, noFlow, portNumbered, flowNumbered, flowOfSet, flowKey, inPlan, goodKind, goodFlow, soFar}
 use Rattle.plan.specs.PlanText.{reasonOf, added}
-use Rattle.plan.specs.SoFar.{soFar, fairLine}
 use Rattle.plan.specs.Written.{flowRecord}
-use Rattle.plan.proofs.PutLaws.{not-found, put-last, every-map}
+use Rattle.plan.proofs.Fair.{fairLine}
 use Rattle.plan.proofs.Kept.{Kept, kept, GoodFlow, good-flow}
 use Rattle.plan.proofs.Faultless.{flow-clears}
 use Rattle.plan.proofs.Found.{port-number}

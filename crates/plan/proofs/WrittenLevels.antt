@@ -9,14 +9,14 @@ use lib.ListN.{length, replicate, length-append}
 use borrow.Author.Tests.{eqb-true, leb-true, le-leb, lt-leb, eq-eqb}
 use Rattle.octets.specs.Lists.{some, count}
 use Rattle.octets.proofs.Cases.{by-eq}
+use Rattle.octets.proofs.ListLaws.{map-none, within-low}
 use Rattle.plan.specs.declared.Flow.{Flow}
-use Rattle.plan.specs.Plan.{Plan, up, mip, noFlow, flowNumbered, inPlan, mpAt, mpsOf, mpCount, goodFlow}
+use Rattle.plan.specs.Plan.{Plan, up, mip, noFlow, flowNumbered, inPlan, mpAt, mpsOf, mpCount, goodFlow, soFar}
 use Rattle.plan.specs.Line.{mpLine}
 use Rattle.plan.specs.PlanText.{reasonOf, withMp, added}
-use Rattle.plan.specs.SoFar.{soFar, fairLine}
 use Rattle.plan.specs.Written.{mpsFrom}
-use Rattle.plan.proofs.PutLaws.{map-none}
-use Rattle.plan.proofs.Kept.{Kept, kept, within-low, GoodFlow, good-flow}
+use Rattle.plan.proofs.Fair.{fairLine}
+use Rattle.plan.proofs.Kept.{Kept, kept, GoodFlow, good-flow}
 use Rattle.plan.proofs.Faultless.{mp-clears}
 use Rattle.plan.proofs.AddedMp.{with-other}
 use Rattle.plan.proofs.InOrder.{every-at, some-under, first-at, distinct-before, distinct-behind, map-join}

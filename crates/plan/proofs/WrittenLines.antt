@@ -10,14 +10,14 @@ use Rattle.octets.specs.Lists.{within}
 use Rattle.octets.specs.Text.{text}
 use Rattle.octets.proofs.Same.{both-true}
 use Rattle.octets.proofs.Cases.{by-eq}
+use Rattle.octets.proofs.ListLaws.{within-low, within-high}
 use Rattle.codec.specs.FrameSet.{uni, enni, untagged, s-tagged}
 use Rattle.plan.specs.Plan.{Plan, up, mip, goodVid}
 use Rattle.plan.specs.Line.{Line, unreadable, portLine, flowLine, mpLine, field, listed, lineOf, byWord}
 use Rattle.plan.specs.Line.{portKinds, flowKinds, mpKinds, asPort, asFlow, asMp}
 use Rattle.plan.specs.PlanText.{reasonOf}
-use Rattle.plan.specs.SoFar.{fairLine}
 use Rattle.plan.specs.Written.{wordAt, fieldsOf, lineText}
-use Rattle.plan.proofs.Kept.{within-low, within-high}
+use Rattle.plan.proofs.Fair.{fairLine}
 use Rattle.plan.proofs.Faultless.{FaultlessFlow, FaultlessMp, port-cleared, flow-cleared, mp-cleared}
 use Rattle.plan.proofs.WrittenNumbers.{decimal-back, decimal-is, address-back, address-is}
 use Rattle.plan.proofs.WrittenFields.{fields-back}

@@ -4,12 +4,13 @@ use mathlib.Core.Bool.{true, false}
 use mathlib.Core.List.{List, [], _∷_, _++_, map, append-assoc, append-nil}
 use lib.Dec.{eqb, ltb}
 use Rattle.octets.specs.Lists.{every}
+use Rattle.octets.proofs.ListLaws.{not-found}
+use Rattle.octets.proofs.PutLaws.{put-last}
 use Rattle.plan.specs.declared.Port.{Port}
-use Rattle.plan.specs.Plan.{Plan, noPort, portNumbered, inPlan, goodPort}
+use Rattle.plan.specs.Plan.{Plan, noPort, portNumbered, inPlan, goodPort, soFar}
 use Rattle.plan.specs.PlanText.{reasonOf, added}
-use Rattle.plan.specs.SoFar.{soFar, fairLine}
 use Rattle.plan.specs.Written.{portRecord}
-use Rattle.plan.proofs.PutLaws.{not-found, put-last}
+use Rattle.plan.proofs.Fair.{fairLine}
 use Rattle.plan.proofs.Kept.{Kept, kept, GoodPort, good-port}
 use Rattle.plan.proofs.Faultless.{port-clears}
 use Rattle.plan.proofs.InOrder.{every-at, below-absent, ascends-before, distinct-before}

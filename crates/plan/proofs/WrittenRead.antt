@@ -10,10 +10,9 @@ use borrow.Author.Tests.{eqb-true, leb-true, le-ltb, ne-eqb, le-leb}
 use Rattle.octets.specs.Lists.{count}
 use Rattle.octets.proofs.Cases.{by-eq}
 use Rattle.plan.specs.declared.Flow.{Flow}
-use Rattle.plan.specs.Plan.{Plan, mpsOf, mpCount, goodFlow, keepsRules}
+use Rattle.plan.specs.Plan.{Plan, mpsOf, mpCount, goodFlow, keepsRules, soFar}
 use Rattle.plan.specs.Line.{lf, parted}
 use Rattle.plan.specs.PlanText.{planned, finished, readLines, emptyPlan, planIn}
-use Rattle.plan.specs.SoFar.{soFar}
 use Rattle.plan.specs.Written.{portRecord, flowRecord, mpsFrom, mpRecords, recordsOf, textOf}
 use Rattle.plan.proofs.Kept.{Kept, kept, rules-so-far, good-flow}
 use Rattle.plan.proofs.Room.{ports-few, flows-few}

@@ -95,14 +95,18 @@ goodFlow plan f =
     && eqb (length (f .mps)) 8
     && every (λ mp. leb mp mip) (f .mps)
 
--- The plan's rules: at least one port; numbers, addresses and frame sets distinct; at most 32 MPs, one a level of a flow.
-unfoldable pub keepsRules : Plan → Bool
-keepsRules plan =
-    leb 1 (length (plan .ports))
-    && ascends (λ p. p .number) 0 (plan .ports)
+-- The rules that a plan keeps while its text is read, when it may have no port yet: numbers, addresses and frame sets distinct; at
+-- most 32 MPs, one a level of a flow.
+unfoldable pub soFar : Plan → Bool
+soFar plan =
+    ascends (λ p. p .number) 0 (plan .ports)
     && every goodPort (plan .ports)
     && distinct (map (λ p. p .address) (plan .ports))
     && ascends flowKey 0 (plan .flows)
     && every (goodFlow plan) (plan .flows)
     && distinct (map (λ f. f .number) (plan .flows))
     && leb (mpCount (plan .flows)) 32
+
+-- The plan's rules: those, and at least one port.
+unfoldable pub keepsRules : Plan → Bool
+keepsRules plan = leb 1 (length (plan .ports)) && soFar plan

@@ -1,15 +1,4 @@
-// The plan: its records, its rules, and its text read into a plan by value.
-mod adding;
-mod fields;
-mod holding;
-mod lines;
-mod placing;
-mod ranges;
-mod reading;
-mod reasons;
-
-pub use holding::mps_of;
-pub use reading::read_plan;
+// The plan: its records.
 
 // A port: its kind is 1 UNI, 2 ENNI.
 pub struct Port {
@@ -33,19 +22,4 @@ pub struct Flow {
 pub struct Records {
     pub ports: [Port; 8],
     pub flows: [Flow; 32],
-}
-
-// One line of a plan's text. A number above 9,999 is read as 9,999, which is out of range wherever it stands.
-pub enum Said {
-    Unreadable,
-    OfPort(u32, u8, u64),
-    OfFlow(u32, u32, u8, u32),
-    OfMp(u32, u8, u32),
-}
-
-// What a text is read as: its records, or the line and the reason of its first fault. The reason is 0 where there is none.
-pub struct ReadPlan {
-    pub line: u32,
-    pub reason: u8,
-    pub records: Records,
 }

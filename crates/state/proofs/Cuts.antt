@@ -4,12 +4,11 @@ use mathlib.Core.List.{List, [], _∷_, _++_}
 use Prim.Native.Nat.{ℕ, suc, zero, _+_, _-_, _*_, _/_, _%_, _^_, _<_, _≤_}
 use native.Mathlib.Nat.{zero-add, suc-add, mul-assoc, pow-suc, not-suc-le-zero, le-of-suc-le-suc}
 use native.Mathlib.Omega.{arith}
-use lib.Dec.{eqb}
 use lib.ListN.{length, getD, take, drop, replicate, length-drop}
 use lib.Seq.{drop-cons, getD-take, take-nil, take-add, drop-drop, length-take-le}
-use borrow.Author.Tests.{eq-eqb, ne-eqb}
+use borrow.Author.Tests.{eq-eqb}
 use Rattle.octets.specs.Octets.{lowNumber, lowOctets, allZero, same}
-use Rattle.octets.proofs.Cases.{by-eq}
+use Rattle.octets.proofs.ListLaws.{eqb-turn}
 use Rattle.state.specs.Image.{zeros}
 
 take-next : (at n : ℕ) (l : List ℕ) → at < length l → take (suc n) (drop at l) ≡ getD l at 0 ∷ take n (drop (suc at) l)
@@ -58,10 +57,6 @@ low-zeros (suc n) zero t h = absurd (not-suc-le-zero h)
 low-zeros (suc n) (suc m) t h = rw (low-zeros n m t (le-of-suc-le-suc h))
 
 -- ---- what is compared
-
-pub eqb-turn : (x y : ℕ) → eqb x y ≡ eqb y x
-eqb-turn x y =
-    by-eq x y (λ e same. rw e (sym (eq-eqb y x (sym same)))) (λ e other. rw e (sym (ne-eqb y x (λ z. other (sym z)))))
 
 pub same-front : (a b c : List ℕ) → same (a ++ b) (a ++ c) ≡ same b c
 unfolding same

@@ -1,27 +1,26 @@
--- A valid state's ports, flows and sessions fit their rows, and are few.
+-- A valid state's ports, flows and sessions fit their rows.
 use mathlib.Core.Path.{_≡_}
 use mathlib.Core.Bool.{Bool, true, false, cond, not, _&&_, _||_}
-use mathlib.Core.List.{map}
 use Prim.Native.Nat.{ℕ, _/_, _^_, _<_, _≤_}
 use native.Mathlib.Omega.{arith}
-use lib.Dec.{eqb, ltb, leb}
-use lib.ListN.{length, length-map}
+use lib.Dec.{eqb, ltb}
+use lib.ListN.{length}
 use borrow.Author.Tests.{eqb-true, leb-true, ltb-true}
-use Rattle.octets.specs.Lists.{within, every}
+use Rattle.octets.specs.Lists.{within}
 use Rattle.octets.proofs.Same.{both-true}
-use Rattle.codec.specs.FrameSet.{uni, enni, untagged, c-tagged, c-tag, s-tag, group, setOf, vidOf, tagFits}
+use Rattle.octets.proofs.ListLaws.{within-low, within-high}
+use Rattle.codec.specs.FrameSet.{untagged, c-tagged, c-tag, s-tag, group, setOf, vidOf, tagFits}
 use Rattle.codec.specs.declared.FrameSet.{FrameSet}
 use Rattle.machine.specs.declared.Session.{Session}
 use Rattle.machine.specs.Machine.{key, keyOf, isOpen}
 use Rattle.plan.specs.declared.Port.{Port}
 use Rattle.plan.specs.declared.Flow.{Flow}
-use Rattle.plan.specs.Plan.{Plan, mip, portNumbered, flowNumbered, inPlan, mpAt, faces}
-use Rattle.plan.specs.Plan.{goodAddress, goodVid, goodKind, goodPort, goodFlow, keepsRules}
-use Rattle.state.specs.State.{State, isAllowed, goodTime, goodSession, valid}
-use Rattle.state.proofs.Rules.{Rules, rules, within-low, within-high}
+use Rattle.plan.specs.Plan.{Plan, portNumbered, flowNumbered, inPlan, mpAt, faces}
+use Rattle.plan.specs.Plan.{goodVid, goodPort, goodFlow, keepsRules}
+use Rattle.plan.proofs.Kept.{rules, good-port as port-kept, good-flow as flow-kept}
+use Rattle.plan.proofs.Found.{port-found, flow-found, flow-passes}
+use Rattle.state.specs.State.{State, isAllowed, goodTime, goodSession}
 use Rattle.state.proofs.RowLaws.{PortFits, FlowFits, SessionFits}
-use Rattle.state.proofs.Found.{port-found, flow-found, flow-passes}
-use Rattle.state.proofs.Few.{every-map, distinct-few, ascends-few}
 
 -- ---- a port
 
@@ -30,17 +29,9 @@ pub record GoodPort (p : Port) : Type 0 where
   pub fits : PortFits p
 
 pub good-port : (p : Port) → goodPort p ≡ true → GoodPort p
-unfolding goodPort
 good-port p h =
-    let a : Bool = within 1 8 (p .number) in
-    let b : Bool = within uni enni (p .kind) in
-    let c : Bool = goodAddress (p .address) in
-    let t3 : _ = both-true (a && b && c) (ltb (p .address) (2 ^ 48)) h in
-    let t2 : _ = both-true (a && b) c (t3 .0) in
-    record {
-      number-within = both-true a b (t2 .0) .0;
-      fits = record { address-fits = ltb-true (p .address) (2 ^ 48) (t3 .1) };
-    }
+    let k : _ = port-kept p h in
+    record { number-within = k .number-fits; fits = record { address-fits = ltb-true (p .address) (2 ^ 48) (k .address-fits) } }
 
 -- ---- a flow
 
@@ -58,23 +49,18 @@ pub record GoodFlow (f : Flow) : Type 0 where
   pub fits : FlowFits f
 
 pub good-flow : (plan : Plan) (f : Flow) → goodFlow plan f ≡ true → GoodFlow f
-unfolding goodFlow inPlan
+unfolding inPlan
 good-flow plan f h =
+    let k : _ = flow-kept plan f h in
     let p : Port = portNumbered (f .port) plan in
-    let a : Bool = within 1 32 (f .number) in
-    let b : Bool = inPlan (p .number) in
-    let c : Bool = goodKind (f .kind) (p .kind) in
-    let d : Bool = goodVid (f .kind) (f .vid) in
-    let e : Bool = eqb (length (f .mps)) 8 in
-    let t5 : _ = both-true (a && b && c && d && e) (every (λ mp. leb mp mip) (f .mps)) h in
-    let t4 : _ = both-true (a && b && c && d) e (t5 .0) in
-    let t3 : _ = both-true (a && b && c) d (t4 .0) in
-    let t2 : _ = both-true (a && b) c (t3 .0) in
-    let t1 : _ = both-true a b (t2 .0) in
     record {
-      number-within = t1 .0;
-      port-some = omega (arith, leb-true 1 (p .number) (t1 .1), port-found plan (f .port) (t1 .1));
-      fits = record { vid-fits = vid-fits (f .kind) (f .vid) (t3 .1); mps-fit = eqb-true (length (f .mps)) 8 (t4 .1) };
+      number-within = k .number-fits;
+      port-some = omega (arith, leb-true 1 (p .number) (k .port-there), port-found plan (f .port) (k .port-there));
+      fits =
+          record {
+            vid-fits = vid-fits (f .kind) (f .vid) (k .vid-fits);
+            mps-fit = eqb-true (length (f .mps)) 8 (k .mps-long);
+          };
     }
 
 -- ---- a session
@@ -145,24 +131,3 @@ good-session s x k h =
 
 pub good-fits : (s : State) (x : Session) → keepsRules (s .plan) ≡ true → goodSession s x ≡ true → SessionFits x
 good-fits s x k h = good-session s x k h .fits
-
--- ---- how many there are
-
-pub ports-few : (plan : Plan) → keepsRules plan ≡ true → length (plan .ports) ≤ 8
-ports-few plan k =
-    let r : Rules plan = rules plan k in
-    let top : (p : Port) → goodPort p ≡ true → p .number ≤ 8
-    = λ p h. within-high 1 8 (p .number) (good-port p h .number-within) in
-    let few : _ = ascends-few (λ (p : Port). p .number) goodPort 8 0 top (plan .ports) (r .ports-ascend) (r .ports-good) in
-    omega (arith, few (omega arith))
-
-pub flows-few : (plan : Plan) → keepsRules plan ≡ true → length (plan .flows) ≤ 32
-flows-few plan k =
-    let r : Rules plan = rules plan k in
-    let told : (f : Flow) → goodFlow plan f ≡ true → within 1 32 (f .number) ≡ true = λ f h. good-flow plan f h .number-within in
-    let all : _ = every-map (λ (f : Flow). f .number) (goodFlow plan) (within 1 32) told (plan .flows) (r .flows-good) in
-    omega (
-      arith,
-      distinct-few 32 (map (λ (f : Flow). f .number) (plan .flows)) (r .numbers) all,
-      length-map (plan .flows) (λ (f : Flow). f .number),
-    )

@@ -13,9 +13,8 @@ use Rattle.octets.specs.Lists.{within, every, first}
 use Rattle.octets.proofs.Cases.{by-eq}
 use Rattle.octets.proofs.Same.{both-true}
 use Rattle.plan.specs.declared.Flow.{Flow}
-use Rattle.plan.specs.Plan.{Plan, noFlow, inPlan, goodFlow}
+use Rattle.plan.specs.Plan.{noFlow, inPlan}
 use Rattle.state.specs.Image.{rowsIn, placeFrom, places, flowIn}
-use Rattle.state.proofs.Fits.{good-flow}
 
 -- a place is 0, or it counts from the first place, s, and stays within the flows
 pub place-bounds : (n s : ℕ) (fs : List Flow) → (placeFrom n s fs ≡ 0 → ⊥)
@@ -81,14 +80,6 @@ place-flow n (suc k) s l hs =
     simp (e, d) (next ∙ place-flow n k (s + 1) (drop 32 l) (omega arith))))
 
 -- ---- numbers within 1 to 32
-
-pub good-numbers : (plan : Plan) (fs : List Flow) → every (goodFlow plan) fs ≡ true
-    → every (λ f. within 1 32 (f .number)) fs ≡ true
-unfolding every
-good-numbers plan [] e = refl
-good-numbers plan (f ∷ fs) e =
-    let b : _ = both-true (goodFlow plan f) (every (goodFlow plan) fs) e in
-    rw (good-flow plan f (b .0) .number-within) (good-numbers plan fs (b .1))
 
 pub no-number : (n : ℕ) (fs : List Flow) → within 1 32 n ≡ false → every (λ f. within 1 32 (f .number)) fs ≡ true
     → first (λ f. eqb (f .number) n) noFlow fs ≡ noFlow

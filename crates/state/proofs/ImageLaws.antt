@@ -10,13 +10,14 @@ use lib.Seq.{take-at}
 use Rattle.octets.specs.Octets.{lowNumber, same}
 use Rattle.octets.proofs.LowLaws.{low-octets}
 use Rattle.octets.proofs.Same.{both-true, same-equal, same-self}
-use Rattle.plan.specs.Plan.{keepsRules}
+use Rattle.plan.specs.Plan.{soFar, keepsRules}
+use Rattle.plan.proofs.Kept.{rules-so-far}
+use Rattle.plan.proofs.Room.{ports-few, flows-few}
 use Rattle.state.specs.State.{State, valid}
 use Rattle.state.specs.Image.{zeros, portRow, flowRow, sessionRow, table, rowsIn, bit, head, image}
 use Rattle.state.specs.Image.{portIn, flowIn, sessionIn, stateOf, okImage}
 use Rattle.state.proofs.Rules.{Valid, valid-parts}
 use Rattle.state.proofs.TableLaws.{rows-back}
-use Rattle.state.proofs.Fits.{ports-few, flows-few}
 use Rattle.state.proofs.Sizes.{ports-readable, flows-readable, sessions-readable, Sized, sized}
 use Rattle.state.proofs.ImageParts.{allowed-part, places-part, flows-part, sessions-part}
 use Rattle.state.proofs.ImageParts.{image-parts, image-allowed, image-ports, image-flows, image-sessions}
@@ -53,6 +54,9 @@ module _ (s : State) (v : valid s ≡ true) where
   kept : keepsRules (s .plan) ≡ true
   kept = parts .plan-kept
 
+  far : soFar (s .plan) ≡ true
+  far = rules-so-far (s .plan) kept .1
+
   pub image-length : length (image s) ≡ 4096
   image-length = image-size s size
 
@@ -71,14 +75,14 @@ module _ (s : State) (v : valid s ≡ true) where
   ports-back =
       let r : _ = ports-readable (s .plan) kept in
       rw (image-ports s size)
-      (rows-back portRow portIn 16 (omega arith) 8 128 (s .plan .ports) (flows-part s) r (ports-few (s .plan) kept) (omega arith))
+      (rows-back portRow portIn 16 (omega arith) 8 128 (s .plan .ports) (flows-part s) r (ports-few (s .plan) far) (omega arith))
 
   flows-back : rowsIn 32 32 flowIn (drop 256 (image s)) ≡ s .plan .flows
   flows-back =
       let r : _ = flows-readable (s .plan) kept in
       let t : List ℕ = zeros 256 ++ sessions-part s in
       rw (image-flows s size)
-      (rows-back flowRow flowIn 32 (omega arith) 32 1024 (s .plan .flows) t r (flows-few (s .plan) kept) (omega arith))
+      (rows-back flowRow flowIn 32 (omega arith) 32 1024 (s .plan .flows) t r (flows-few (s .plan) far) (omega arith))
 
   sessions-back : rowsIn 16 32 sessionIn (drop 1536 (image s)) ≡ s .sessions
   sessions-back =

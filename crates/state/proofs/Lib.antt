@@ -3,9 +3,7 @@ pub mod Cuts
 pub mod RowLaws
 pub mod RowAnswers
 pub mod TableLaws
-pub mod Few
 pub mod Rules
-pub mod Found
 pub mod Fits
 pub mod Sizes
 pub mod ImageParts

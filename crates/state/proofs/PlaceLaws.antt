@@ -10,19 +10,21 @@ use lib.Seq.{getD-drop, getD-take, drop-drop, take-at}
 use borrow.Author.Tests.{ne-eqb, le-leb, lt-leb, leb-true}
 use Rattle.octets.specs.Octets.{same}
 use Rattle.octets.specs.Lists.{within, every}
-use Rattle.octets.proofs.Cases.{by-eq}
 use Rattle.octets.proofs.Same.{same-equal, same-self}
+use Rattle.octets.proofs.Cases.{by-eq}
+use Rattle.octets.proofs.ListLaws.{within-low, within-high}
 use Rattle.plan.specs.Plan.{Plan, noFlow, flowNumbered, inPlan}
+use Rattle.plan.proofs.Kept.{rules, good-numbers}
+use Rattle.plan.proofs.Found.{flow-found, flow-passes}
 use Rattle.state.specs.State.{State}
-use Rattle.state.specs.Image.{zeros, placeFrom, places, image, flowIn, stateOf, okImage}
+use Rattle.state.specs.Image.{zeros, placeFrom, places, flowIn, stateOf, okImage}
 use Rattle.state.specs.Rows.{rowAtPlace, numberedAt, flowOfRow}
-use Rattle.state.proofs.Rules.{rules, valid-parts, within-low, within-high}
+use Rattle.state.proofs.Rules.{valid-parts}
 use Rattle.state.proofs.TableLaws.{rows-few}
-use Rattle.state.proofs.Found.{flow-found, flow-passes}
 use Rattle.state.proofs.Sizes.{sized}
 use Rattle.state.proofs.ImageParts.{places-length, ports-part, image-places}
 use Rattle.state.proofs.ImageLaws.{ok-valid, image-state}
-use Rattle.state.proofs.FlowPlaces.{place-bounds, place-in, place-at, atPlace, place-flow, good-numbers, no-number}
+use Rattle.state.proofs.FlowPlaces.{place-bounds, place-in, place-at, atPlace, place-flow, no-number}
 
 -- whatever the octets are, the row lies in an image
 pub row-room : (n : ℕ) (b : List ℕ) → numberedAt n b + 32 ≤ 4096

@@ -9,10 +9,10 @@ use lib.Dec.{eqb}
 use lib.ListN.{length, getD, take, drop, replicate, length-take, List·getD-map, List·getD-eq-default}
 use lib.Seq.{getD-drop, getD-take}
 use borrow.Author.Tests.{ne-eqb}
+use Rattle.octets.proofs.ListLaws.{eqb-turn}
 use Rattle.plan.specs.Plan.{noFlow, mpAt}
 use Rattle.state.specs.Image.{flowIn}
 use Rattle.state.specs.Rows.{flowOfRow}
-use Rattle.state.proofs.Cuts.{eqb-turn}
 
 none-at : (n level : ℕ) → getD (replicate {A = ℕ} n 0) level 0 ≡ 0
 none-at zero level = refl

@@ -10,13 +10,14 @@ use lib.Seq.{drop-drop, getD-drop, take-at}
 use borrow.Author.Tests.{eq-eqb}
 use Rattle.octets.specs.Octets.{lowNumber, lowOctets, allZero, same}
 use Rattle.octets.proofs.LowLaws.{low-octets, octets-low, low-parts, low-1}
+use Rattle.octets.proofs.ListLaws.{eqb-turn}
 use Rattle.machine.specs.declared.Session.{Session}
 use Rattle.machine.specs.Machine.{key, keyOf}
 use Rattle.plan.specs.declared.Port.{Port}
 use Rattle.plan.specs.declared.Flow.{Flow}
 use Rattle.plan.specs.Plan.{setKey, flowKey}
 use Rattle.state.specs.Image.{zeros, portRow, flowRow, sessionRow, portIn, flowIn, sessionIn}
-use Rattle.state.proofs.Cuts.{take-two, take-on, low-octets-join, eqb-turn, same-tail}
+use Rattle.state.proofs.Cuts.{take-two, take-on, low-octets-join, same-tail}
 
 -- what a port, a flow and a session need to fit their rows
 pub record PortFits (p : Port) : Type 0 where

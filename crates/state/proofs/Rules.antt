@@ -1,55 +1,15 @@
--- The rules of a plan and of a valid state, one by one.
+-- The rules of a valid state, one by one.
 use mathlib.Core.Path.{_≡_}
 use mathlib.Core.Bool.{Bool, true, _&&_}
-use mathlib.Core.List.{map}
-use Prim.Native.Nat.{ℕ, _^_, _<_, _≤_}
+use Prim.Native.Nat.{_^_, _<_, _≤_}
 use lib.Dec.{eqb, ltb, leb}
 use lib.ListN.{length}
 use borrow.Author.Tests.{eqb-true, leb-true, ltb-true}
-use Rattle.octets.specs.Lists.{within, every, ascends, distinct}
+use Rattle.octets.specs.Lists.{every, ascends}
 use Rattle.octets.proofs.Same.{both-true}
 use Rattle.machine.specs.Machine.{keyOf}
-use Rattle.plan.specs.Plan.{Plan, flowKey, mpCount}
-use Rattle.plan.specs.Plan.{goodPort, goodFlow, keepsRules}
+use Rattle.plan.specs.Plan.{keepsRules}
 use Rattle.state.specs.State.{State, onlyFlows, goodSession, valid}
-
-pub record Rules (plan : Plan) : Type 0 where
-  pub some-port : leb 1 (length (plan .ports)) ≡ true
-  pub ports-ascend : ascends (λ p. p .number) 0 (plan .ports) ≡ true
-  pub ports-good : every goodPort (plan .ports) ≡ true
-  pub addresses : distinct (map (λ p. p .address) (plan .ports)) ≡ true
-  pub flows-ascend : ascends flowKey 0 (plan .flows) ≡ true
-  pub flows-good : every (goodFlow plan) (plan .flows) ≡ true
-  pub numbers : distinct (map (λ f. f .number) (plan .flows)) ≡ true
-  pub mps-few : leb (mpCount (plan .flows)) 32 ≡ true
-
-pub rules : (plan : Plan) → keepsRules plan ≡ true → Rules plan
-unfolding keepsRules
-rules plan h =
-    let a : Bool = leb 1 (length (plan .ports)) in
-    let b : Bool = ascends (λ p. p .number) 0 (plan .ports) in
-    let c : Bool = every goodPort (plan .ports) in
-    let d : Bool = distinct (map (λ p. p .address) (plan .ports)) in
-    let e : Bool = ascends flowKey 0 (plan .flows) in
-    let f : Bool = every (goodFlow plan) (plan .flows) in
-    let g : Bool = distinct (map (λ f. f .number) (plan .flows)) in
-    let t7 : _ = both-true (a && b && c && d && e && f && g) (leb (mpCount (plan .flows)) 32) h in
-    let t6 : _ = both-true (a && b && c && d && e && f) g (t7 .0) in
-    let t5 : _ = both-true (a && b && c && d && e) f (t6 .0) in
-    let t4 : _ = both-true (a && b && c && d) e (t5 .0) in
-    let t3 : _ = both-true (a && b && c) d (t4 .0) in
-    let t2 : _ = both-true (a && b) c (t3 .0) in
-    let t1 : _ = both-true a b (t2 .0) in
-    record {
-      some-port = t1 .0;
-      ports-ascend = t1 .1;
-      ports-good = t2 .1;
-      addresses = t3 .1;
-      flows-ascend = t4 .1;
-      flows-good = t5 .1;
-      numbers = t6 .1;
-      mps-few = t7 .1;
-    }
 
 pub record Valid (s : State) : Type 0 where
   pub plan-kept : keepsRules (s .plan) ≡ true
@@ -84,11 +44,3 @@ valid-parts s h =
       sessions-ascend = t5 .1;
       sessions-good = t6 .1;
     }
-
-pub within-low : (low high x : ℕ) → within low high x ≡ true → low ≤ x
-unfolding within
-within-low low high x h = leb-true low x (both-true (leb low x) (leb x high) h .0)
-
-pub within-high : (low high x : ℕ) → within low high x ≡ true → x ≤ high
-unfolding within
-within-high low high x h = leb-true x high (both-true (leb low x) (leb x high) h .1)

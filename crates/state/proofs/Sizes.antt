@@ -5,17 +5,20 @@ use mathlib.Core.List.{List}
 use Prim.Native.Nat.{ℕ, _*_, _≤_}
 use native.Mathlib.Omega.{arith}
 use lib.ListN.{length}
+use Rattle.octets.proofs.ListLaws.{within-low}
 use Rattle.machine.specs.declared.Session.{Session}
 use Rattle.plan.specs.declared.Port.{Port}
 use Rattle.plan.specs.declared.Flow.{Flow}
-use Rattle.plan.specs.Plan.{Plan, goodPort, goodFlow, keepsRules}
+use Rattle.plan.specs.Plan.{Plan, goodPort, goodFlow, soFar, keepsRules}
+use Rattle.plan.proofs.Kept.{rules-so-far, rules}
+use Rattle.plan.proofs.Room.{ports-few, flows-few}
 use Rattle.state.specs.State.{State, goodSession, valid}
 use Rattle.state.specs.Image.{portRow, flowRow, sessionRow, table, portIn, flowIn, sessionIn}
-use Rattle.state.proofs.Rules.{rules, Valid, valid-parts, within-low}
+use Rattle.state.proofs.Rules.{Valid, valid-parts}
 use Rattle.state.proofs.RowLaws.{port-length, flow-length, session-length, port-back, flow-back, session-back}
 use Rattle.state.proofs.RowLaws.{port-head, flow-head, session-head}
 use Rattle.state.proofs.TableLaws.{Each, each, each-also, Readable, table-length}
-use Rattle.state.proofs.Fits.{GoodPort, good-port, GoodFlow, good-flow, GoodSession, good-session, ports-few, flows-few}
+use Rattle.state.proofs.Fits.{GoodPort, good-port, GoodFlow, good-flow, GoodSession, good-session}
 
 -- ---- each row of a valid state is read back
 
@@ -74,8 +77,9 @@ pub sized : (s : State) → valid s ≡ true → Sized s
 sized s v =
     let p : Valid s = valid-parts s v in
     let k : keepsRules (s .plan) ≡ true = p .plan-kept in
-    let ports : length (s .plan .ports) ≤ 8 = ports-few (s .plan) k in
-    let flows : length (s .plan .flows) ≤ 32 = flows-few (s .plan) k in
+    let far : soFar (s .plan) ≡ true = rules-so-far (s .plan) k .1 in
+    let ports : length (s .plan .ports) ≤ 8 = ports-few (s .plan) far in
+    let flows : length (s .plan .flows) ≤ 32 = flows-few (s .plan) far in
     let sessions : length (s .sessions) ≤ 16 = p .sessions-few in
     record {
       allowed-size = p .allowed-length;

@@ -8,11 +8,13 @@ use lib.ListN.{length, set, length-map}
 use lib.Seq.{set-append-left}
 use Rattle.octets.specs.Octets.{lowOctets, splice}
 use Rattle.octets.specs.Lists.{put, without, ascends}
+use Rattle.octets.proofs.Ordered.{without-ascends, map-ascends, without-length}
+use Rattle.octets.proofs.PutLaws.{put-ascends}
 use Rattle.machine.specs.declared.Session.{Session}
 use Rattle.machine.specs.Machine.{keyOf, withdrawn}
 use Rattle.machine.specs.Time.{ticked}
 use Rattle.state.specs.State.{State, withSessions, valid, goodSession}
-use Rattle.state.specs.Image.{zeros, table, bit, head, image}
+use Rattle.state.specs.Image.{zeros, bit, head, image}
 use Rattle.state.proofs.RowLaws.{SessionFits}
 use Rattle.state.proofs.TableLaws.{each}
 use Rattle.state.proofs.Rules.{Valid, valid-parts}
@@ -20,7 +22,7 @@ use Rattle.state.proofs.Fits.{good-fits}
 use Rattle.state.proofs.ImageParts.{image-parts, places-part}
 use Rattle.state.proofs.ImageLaws.{head-length}
 use Rattle.store.specs.Stored.{sessionsMapped, sessionsCleared, sessionPut, sessionRemoved}
-use Rattle.store.proofs.Kept.{put-ascends, without-ascends, map-ascends, each-put, each-without, each-map, without-length}
+use Rattle.store.proofs.Kept.{each-put, each-without, each-map}
 use Rattle.store.proofs.Runs.{set-past, set-map}
 use Rattle.store.proofs.Steps.{Keeps, kept-key, kept-fits}
 use Rattle.store.proofs.Tables.{Tabled, mapped-table, cleared-table}
@@ -36,7 +38,7 @@ none-tabled = record { few = omega arith; order = refl; fit = tt }
 module _ (xs : List Session) (t : Tabled xs) where
   pub put-tabled : (x : Session) → SessionFits x → 1 ≤ keyOf x → length (put keyOf x xs) ≤ 16 → Tabled (put keyOf x xs)
   put-tabled x f some room =
-      record { few = room; order = put-ascends keyOf 0 x xs some (t .order); fit = each-put keyOf SessionFits x xs f (t .fit) }
+      record { few = room; order = put-ascends keyOf x 0 xs some (t .order); fit = each-put keyOf SessionFits x xs f (t .fit) }
 
   pub without-tabled : (k : ℕ) → Tabled (without keyOf k xs)
   without-tabled k =

@@ -9,3 +9,6 @@ pub mod Shift
 pub mod PutTable
 pub mod RemoveTable
 pub mod Images
+pub mod PlanRows
+pub mod Seats
+pub mod Made

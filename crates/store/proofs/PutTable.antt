@@ -11,6 +11,7 @@ use borrow.Author.Tests.{eq-eqb, ne-eqb, le-ltb, lt-ltb}
 use Rattle.octets.specs.Octets.{lowNumber, movedUp}
 use Rattle.octets.specs.Lists.{ascends, put}
 use Rattle.octets.proofs.Cases.{by-eq, by-lt}
+use Rattle.octets.proofs.Ordered.{next-key}
 use Rattle.machine.specs.declared.Session.{Session}
 use Rattle.machine.specs.Machine.{keyOf}
 use Rattle.state.specs.Image.{sessionRow, table}
@@ -18,7 +19,6 @@ use Rattle.state.proofs.RowLaws.{SessionFits}
 use Rattle.state.proofs.TableLaws.{Each}
 use Rattle.store.specs.Stored.{placeRow, placeOf, rowPut, rowInserted, sessionPut}
 use Rattle.store.proofs.Shift.{put-behind, inserted-behind, table-long, shorter}
-use Rattle.store.proofs.Kept.{next-key}
 use Rattle.store.proofs.Tables.{Tabled, first-row, empty-key, first-key, behind-first, past-first, past-length, past-drop}
 
 -- b with a session put among the k rows from `start` on

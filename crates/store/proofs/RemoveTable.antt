@@ -12,6 +12,7 @@ use borrow.Author.Tests.{eq-eqb, ne-eqb}
 use Rattle.octets.specs.Octets.{lowNumber, splice, movedDown}
 use Rattle.octets.specs.Lists.{ascends, without}
 use Rattle.octets.proofs.Cases.{by-eq}
+use Rattle.octets.proofs.Ordered.{next-key, without-none}
 use Rattle.machine.specs.declared.Session.{Session}
 use Rattle.machine.specs.Machine.{keyOf}
 use Rattle.state.specs.Image.{zeros, sessionRow, table}
@@ -19,7 +20,6 @@ use Rattle.state.specs.Rows.{findRow, sessionAt}
 use Rattle.state.proofs.RowLaws.{SessionFits, session-length}
 use Rattle.state.proofs.TableLaws.{Each}
 use Rattle.store.specs.Stored.{sessionRemoved}
-use Rattle.store.proofs.Kept.{next-key, without-none}
 use Rattle.store.proofs.Tables.{Tabled, first-row, empty-key, first-key, behind-first, past-first, past-length, past-drop}
 use Rattle.store.proofs.Shift.{removed-behind, table-long, longer}
 

@@ -1,7 +1,7 @@
 -- How the code rewrites the lent octets. The laws in proofs/ say what each of these makes of a state's image.
 use mathlib.Core.List.{List, _++_}
 use mathlib.Core.Bool.{cond}
-use Prim.Native.Nat.{ℕ, zero, suc, _+_, _-_}
+use Prim.Native.Nat.{ℕ, zero, suc, _+_}
 use lib.ListN.{take, drop}
 use lib.Dec.{eqb, ltb}
 use Rattle.octets.specs.Octets.{lowNumber, splice, movedUp, movedDown}

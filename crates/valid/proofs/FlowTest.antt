@@ -48,8 +48,8 @@ unfolding flowSeen
 flow-seen l last place odd marks k o e m = rw (k, o, e, m)
 
 -- what must be right at the end
-pub right-at : (b : List ℕ) (last place odd marks : ℕ) {places : ℕ} {right : Bool} → places ≡ count (leb 1) (take 32 (drop 64 b))
-    → right ≡ (eqb odd 0 && leb (octetSum 8 marks) 128 && eqb place places)
+pub right-at : (b : List ℕ) (last place odd marks : ℕ) {right : Bool}
+    → right ≡ (eqb odd 0 && leb (octetSum 8 marks) 128 && eqb place (count (leb 1) (take 32 (drop 64 b))))
     → flowsRight b (seen last place odd marks) ≡ right
 unfolding flowsRight
-right-at b last place odd marks used e = rw (← used) (sym e)
+right-at b last place odd marks e = sym e

@@ -11,13 +11,13 @@ use lib.ListN.{length, getD, take, drop, length-drop}
 use lib.Seq.{getD-drop, getD-take, length-take-le}
 use Rattle.octets.specs.Octets.{same}
 use Rattle.octets.specs.Lists.{within, every, count, ascends, distinct}
+use Rattle.octets.proofs.ListLaws.{every-map}
 use Rattle.codec.proofs.Places.{Octets}
 use Rattle.plan.specs.declared.Flow.{Flow}
 use Rattle.plan.specs.Plan.{Plan, flowKey, goodPort, goodFlow, mpCount}
+use Rattle.plan.proofs.Kept.{good-numbers}
 use Rattle.state.specs.Image.{flowRow, flowIn, stateOf, places, table, rowsIn}
 use Rattle.state.proofs.TableLaws.{rows-few}
-use Rattle.state.proofs.Few.{every-map}
-use Rattle.state.proofs.Fits.{good-flow}
 use Rattle.valid.specs.Pass.{Seen, noneSeen, octetSum, okFlows}
 use Rattle.valid.proofs.Tests.{and-left-comm, and-when}
 use Rattle.valid.proofs.RowsLaw.{passes, rows-law}
@@ -75,8 +75,7 @@ module _ (b : List ℕ) where
     long-places = length-take-le 32 (drop 64 b) (omega (arith, length-drop 64 b))
 
     numbers-within : (fs : List Flow) → every (goodFlow plan) fs ≡ true → every (within 1 32) (map (λ f. f .number) fs) ≡ true
-    numbers-within fs g =
-        every-map (λ (f : Flow). f .number) (goodFlow plan) (within 1 32) (λ f e. good-flow plan f e .number-within) fs g
+    numbers-within fs g = every-map (λ (f : Flow). f .number) (within 1 32) fs ∙ good-numbers plan fs g
 
     module _ (fs : List Flow) (few : length fs ≤ 32) where
       counted : every (goodFlow plan) fs ≡ true

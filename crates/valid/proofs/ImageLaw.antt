@@ -2,16 +2,14 @@
 use mathlib.Core.Path.{_≡_, _∙_}
 use mathlib.Core.Bool.{true, _&&_, and-true}
 use mathlib.Core.List.{List, map}
-use Prim.Native.Nat.{ℕ, zero, suc, _+_, _*_, _^_, _<_, _≤_}
+use Prim.Native.Nat.{ℕ, _+_, _^_, _<_, _≤_}
 use native.Mathlib.Omega.{arith}
-use native.Mathlib.Nat.{suc-mul, le-trans, mul-le-mul-right}
 use lib.Dec.{eqb}
 use lib.ListN.{length, take, drop, length-drop, length-map}
-use lib.Seq.{length-take-le}
+use lib.Seq.{length-take-le, take-all}
 use borrow.Author.Tests.{eq-eqb, lt-ltb, le-leb}
-use Rattle.octets.specs.Octets.{lowNumber, lowOctets, allZero, same}
+use Rattle.octets.specs.Octets.{lowOctets, allZero, same}
 use Rattle.octets.specs.Lists.{every, ascends}
-use Rattle.octets.proofs.Cases.{by-eq}
 use Rattle.octets.proofs.Same.{same-self}
 use Rattle.octets.proofs.LowLaws.{low-fits, octets-low}
 use Rattle.codec.proofs.Places.{Octets}
@@ -21,36 +19,10 @@ use Rattle.state.specs.State.{State, valid, onlyFlows, goodSession}
 use Rattle.state.specs.Image.{zeros, portRow, flowRow, sessionRow, table, rowsIn, places, bit}
 use Rattle.state.specs.Image.{portIn, flowIn, sessionIn, stateOf, okImage}
 use Rattle.state.proofs.Cuts.{same-zeros}
-use Rattle.state.proofs.RowLaws.{port-length, flow-length, session-length}
-use Rattle.state.proofs.TableLaws.{Each, rows-few, rows-within, table-length, port-within, flow-within}
+use Rattle.state.proofs.TableLaws.{rows-few, rows-within, port-within, flow-within, session-within}
 use Rattle.state.proofs.Sizes.{Sized}
+use Rattle.valid.proofs.ReadSizes.{read-size, port-wide, flow-wide, session-wide}
 use Rattle.valid.proofs.SameImage.{same-image}
-
--- a table of rows that are read from octets, each as wide as it is written, has its length
-module _ {A : Type 0} (row : A → List ℕ) (read : List ℕ → A) (width : ℕ)
-    (wide : (l : List ℕ) → width ≤ length l → length (row (read l)) ≡ width) where
-  each-wide : (k : ℕ) (l : List ℕ) → k * width ≤ length l → Each (λ x. length (row x) ≡ width) (rowsIn k width read l)
-  unfolding rowsIn
-  each-wide zero l h = tt
-  each-wide (suc k) l h =
-      let g : k * width + width ≤ length l = rw suc-mul at h in
-      let more : _ = each-wide k (drop width l) (rw length-drop (omega arith)) in
-      by-eq (lowNumber 8 l) 0 (λ e none. simp e tt) (λ e some. simp e ((wide l (omega arith), more)))
-
-  read-size : (k n : ℕ) (l : List ℕ) → k * width ≤ length l → k * width ≤ n → length (table n row (rowsIn k width read l)) ≡ n
-  read-size k n l h fit =
-      table-length row width n (rowsIn k width read l) (each-wide k l h)
-      (le-trans (mul-le-mul-right width (rows-few k width read l)) fit)
-
-port-wide : (l : List ℕ) → 16 ≤ length l → length (portRow (portIn l)) ≡ 16
-port-wide l h = port-length (portIn l)
-
-session-wide : (l : List ℕ) → 32 ≤ length l → length (sessionRow (sessionIn l)) ≡ 32
-session-wide l h = session-length (sessionIn l)
-
-flow-wide : (l : List ℕ) → 32 ≤ length l → length (flowRow (flowIn l)) ≡ 32
-unfolding flowIn
-flow-wide l h = flow-length (flowIn l) (length-take-le 8 (drop 8 l) (rw length-drop (omega arith)))
 
 module _ (l : List ℕ) (o : Octets l) (long : length l ≡ 4096) where
   abbrev s : State
@@ -66,6 +38,10 @@ module _ (l : List ℕ) (o : Octets l) (long : length l ≡ 4096) where
   pub flows-read : rowsIn 32 32 flowIn (take 1024 (drop 256 l)) ≡ plan .flows
   unfolding stateOf
   flows-read = rows-within 32 32 1024 flowIn (omega arith) flow-within (drop 256 l) (omega arith)
+
+  pub sessions-read : rowsIn 16 32 sessionIn (take 512 (drop 1536 l)) ≡ s .sessions
+  unfolding stateOf
+  sessions-read = rows-within 16 32 512 sessionIn (omega arith) session-within (drop 1536 l) (omega arith)
 
   rest-long : (at n : ℕ) → at + n ≤ 4096 → n ≤ length (drop at l)
   rest-long at n h = rw length-drop (omega arith)
@@ -84,9 +60,19 @@ module _ (l : List ℕ) (o : Octets l) (long : length l ≡ 4096) where
             read-size sessionRow sessionIn 32 session-wide 16 2560 (drop 1536 l) (rest-long 1536 512 (omega arith)) (omega arith);
       }
 
+  rows-fit : length (table 512 sessionRow (s .sessions)) ≡ 512
+  unfolding stateOf
+  rows-fit = read-size sessionRow sessionIn 32 session-wide 16 512 (drop 1536 l) (rest-long 1536 512 (omega arith)) (omega arith)
+
   zero-part : (at n : ℕ) → at + n ≤ 4096 → same (zeros n) (take n (drop at l)) ≡ allZero (take n (drop at l))
   unfolding zeros
   zero-part at n h = same-zeros n (take n (drop at l)) (part-long at n h)
+
+  zero-end : same (zeros 2048) (drop 2048 l) ≡ allZero (take 2048 (drop 2048 l))
+  unfolding zeros
+  zero-end =
+      let e : length (drop 2048 l) ≡ 2048 = rw length-drop (omega arith) in
+      rw (take-all 2048 (drop 2048 l) (omega arith)) (same-zeros 2048 (drop 2048 l) e)
 
   clock-same : same (lowOctets 4 (s .clock)) (take 4 l) ≡ true
   unfolding stateOf
@@ -111,15 +97,18 @@ module _ (l : List ℕ) (o : Octets l) (long : length l ≡ 4096) where
       && (allZero (take 32 (drop 96 l))
       && (same (table 128 portRow (plan .ports)) (take 128 (drop 128 l))
       && (same (table 1024 flowRow (plan .flows)) (take 1024 (drop 256 l))
-      && (allZero (take 256 (drop 1280 l)) && same (table 2560 sessionRow (s .sessions)) (drop 1536 l)))))))))
+      && (allZero (take 256 (drop 1280 l))
+      && (same (table 512 sessionRow (s .sessions)) (take 512 (drop 1536 l))
+      && allZero (take 2048 (drop 2048 l)))))))))))
   unfolding okImage valid
   image-law =
       simp (
-        same-image s l sizes,
+        same-image s l sizes rows-fit,
         clock-same,
         zero-part 4 28 (omega arith),
         zero-part 96 32 (omega arith),
         zero-part 1280 256 (omega arith),
+        zero-end,
         lt-ltb (s .clock) (2 ^ 32) clock-fits,
         eq-eqb (length (s .allowed)) 32 (sizes .allowed-size),
         le-leb (length (s .sessions)) 16 sessions-few,

@@ -1,4 +1,5 @@
 pub mod Tests
+pub mod ZeroLaws
 pub mod RowsLaw
 pub mod PortsLaw
 pub mod BitLaws
@@ -12,6 +13,7 @@ pub mod FlowsLaw
 pub mod AllowedLaw
 pub mod SessionsLaw
 pub mod SameImage
+pub mod ReadSizes
 pub mod ImageLaw
 pub mod TestLaw
 pub mod TurnLaws

@@ -1,8 +1,8 @@
 -- Turns of the loops over the octets beside the flows' numbers, counted or compared with places, and over a number's octets.
-use mathlib.Core.Path.{_≡_, refl}
+use mathlib.Core.Path.{_≡_, refl, sym}
 use mathlib.Core.Bool.{Bool, true, false, cond, _&&_, _||_, and-true, and-assoc}
 use mathlib.Core.List.{List}
-use Prim.Native.Nat.{ℕ, suc, _+_, _-_, _/_, _%_, _<_, _≤_}
+use Prim.Native.Nat.{ℕ, zero, suc, _+_, _-_, _/_, _%_, _<_, _≤_}
 use native.Mathlib.Nat.{add-zero, add-assoc}
 use native.Mathlib.Numerals.{add-one}
 use native.Mathlib.Omega.{arith}
@@ -10,6 +10,7 @@ use lib.Bits.{bitOr}
 use lib.Dec.{eqb, leb}
 use lib.ListN.{length, getD, drop, drop-of-length-le}
 use lib.Seq.{drop-cons}
+use borrow.Author.Tests.{ne-eqb, lt-leb}
 use Rattle.octets.specs.Lists.{count}
 use Rattle.octets.proofs.Zero.{or-eqb}
 use Rattle.valid.specs.Pass.{octetSum, okAllowed}
@@ -36,6 +37,23 @@ unfolding octetSum
 sum-end i n x h e =
     let none : 8 - i ≡ 0 = omega arith in
     simp (none, add-zero) at e
+
+-- an octet of an allowed flow is at most its place's mark
+at-most : (a : ℕ) (m : Bool) → (eqb a 0 || (eqb a 1 && m)) ≡ leb a (cond m 1 0)
+at-most zero true = refl
+at-most zero false = refl
+at-most (suc zero) true = refl
+at-most (suc zero) false = refl
+at-most (suc (suc a)) m =
+    rw (ne-eqb (suc (suc a)) 0 (λ z. absurd (omega arith)), ne-eqb (suc (suc a)) 1 (λ z. absurd (omega arith)))
+    (sym (lt-leb (suc (suc a)) (cond m 1 0) (high m)))
+  where
+    high : (m : Bool) → cond m 1 0 < suc (suc a)
+    high true = omega arith
+    high false = omega arith
+
+pub at-most-mark : (a p : ℕ) → (eqb a 0 || (eqb a 1 && leb 1 p)) ≡ leb a (cond (leb 1 p) 1 0)
+at-most-mark a p = at-most a (leb 1 p)
 
 -- 1 where a test fails
 fault-zero : (good : Bool) → eqb (cond good 0 1) 0 ≡ good

@@ -1,8 +1,8 @@
 -- What is odd in the flows' rows is collected and tested at the end: the same as a test at each row.
 use mathlib.Core.Path.{_≡_, refl}
 use mathlib.Core.Bool.{Bool, _&&_, and-assoc}
-use mathlib.Core.List.{List, [], _∷_, _++_}
-use Prim.Native.Nat.{ℕ, suc, zero, _+_, _≤_}
+use mathlib.Core.List.{List}
+use Prim.Native.Nat.{ℕ, suc, zero, _≤_}
 use native.Mathlib.Omega.{arith}
 use lib.Dec.{eqb, leb}
 use lib.ListN.{length, take, drop, length-drop}
@@ -16,6 +16,7 @@ use Rattle.plan.specs.Plan.{mip}
 use Rattle.state.proofs.Cuts.{low-within}
 use Rattle.valid.specs.Pass.{okRows, Seen, oddOf, octetSum, flowFits, flowSeen, flowsRight}
 use Rattle.valid.proofs.Tests.{and-left-comm}
+use Rattle.valid.proofs.ZeroLaws.{zero-parts}
 use Rattle.octets.proofs.Zero.{or-eqb}
 use Rattle.valid.proofs.BitLaws.{mask, odd-none}
 use Rattle.valid.proofs.RowsLaw.{octets-drop, octets-take}
@@ -73,11 +74,6 @@ module _ (b : List ℕ) where
       (okRows (evenFits b) evenSeen (evenRight b) 32 n (evenSeen (even s) t) (drop 32 t))))
 
 -- ---- what is odd in one row
-
-zero-parts : (a b : List ℕ) → allZero (a ++ b) ≡ (allZero a && allZero b)
-unfolding allZero
-zero-parts [] b = refl
-zero-parts (x ∷ a) b = rw (zero-parts a b) (simp and-assoc)
 
 pub odd-row : (l : List ℕ) → Octets l → 32 ≤ length l
     → eqb (oddOf l) 0 ≡ (every (λ mp. leb mp mip) (take 8 (drop 8 l)) && allZero (take 16 (drop 16 l)))

@@ -10,11 +10,11 @@ use lib.ListN.{length, getD, List·getD-eq-default}
 use borrow.Author.Tests.{eqb-true, eq-eqb, not-true}
 use Rattle.octets.specs.Octets.{same}
 use Rattle.octets.specs.Lists.{within, every, some, count, distinct}
-use Rattle.octets.proofs.Cases.{by-eq, by-le}
 use Rattle.octets.proofs.Same.{both-true, same-equal, same-self}
+use Rattle.octets.proofs.Cases.{by-eq, by-le}
+use Rattle.octets.proofs.ListLaws.{within-low, within-high}
 use Rattle.plan.specs.declared.Flow.{Flow}
 use Rattle.state.specs.Image.{placeFrom, places}
-use Rattle.state.proofs.Rules.{within-low, within-high}
 use Rattle.valid.proofs.Tests.{pass-same}
 use Rattle.valid.proofs.Used.{numbers, used, places-from, all-used, Agrees, equal-used}
 use Rattle.state.proofs.ImageParts.{places-length}

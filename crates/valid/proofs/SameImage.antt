@@ -1,14 +1,15 @@
 -- The image of a state, compared with octets part by part.
 use mathlib.Core.Path.{_≡_, _∙_}
 use mathlib.Core.Bool.{_&&_}
-use mathlib.Core.List.{List, _++_, map}
-use Prim.Native.Nat.{ℕ, _+_}
-use lib.ListN.{length, take, drop, length-map, length-replicate}
+use mathlib.Core.List.{List, _++_, map, append-assoc}
+use Prim.Native.Nat.{ℕ, _+_, _-_, _≤_}
+use native.Mathlib.Omega.{arith}
+use lib.ListN.{length, take, drop, length-map, length-append, length-replicate, replicate-append-replicate}
 use lib.Seq.{drop-drop}
 use Rattle.octets.specs.Octets.{lowOctets, same}
 use Rattle.octets.proofs.LowLaws.{low-octets-length}
 use Rattle.state.specs.State.{State}
-use Rattle.state.specs.Image.{zeros, portRow, flowRow, sessionRow, table, places, bit, image}
+use Rattle.state.specs.Image.{zeros, portRow, flowRow, sessionRow, rows, table, places, bit, image}
 use Rattle.state.proofs.Sizes.{Sized}
 use Rattle.state.proofs.ImageParts.{image-parts, places-length}
 use Rattle.valid.proofs.RowsLaw.{same-parts}
@@ -22,7 +23,17 @@ zeros-length : (n : ℕ) → length (zeros n) ≡ n
 unfolding zeros
 zeros-length n = length-replicate n 0
 
-pub same-image : (s : State) (l : List ℕ) → Sized s
+-- a table whose rows leave room behind them
+more-room : {A : Type 0} (row : A → List ℕ) (n m : ℕ) (xs : List A) → length (table n row xs) ≡ n
+    → table (n + m) row xs ≡ table n row xs ++ zeros m
+unfolding table zeros
+more-room row n m xs e =
+    let k : ℕ = length (rows row xs) in
+    let fit : k ≤ n = omega (arith, rw length-append at e) in
+    let d : n + m - k ≡ n - k + m = omega arith in
+    rw (append-assoc, replicate-append-replicate, d)
+
+pub same-image : (s : State) (l : List ℕ) → Sized s → length (table 512 sessionRow (s .sessions)) ≡ 512
     → same (image s) l
     ≡ (same (lowOctets 4 (s .clock)) (take 4 l)
     && (same (zeros 28) (take 28 (drop 4 l))
@@ -32,8 +43,9 @@ pub same-image : (s : State) (l : List ℕ) → Sized s
     && (same (table 128 portRow (s .plan .ports)) (take 128 (drop 128 l))
     && (same (table 1024 flowRow (s .plan .flows)) (take 1024 (drop 256 l))
     && (same (zeros 256) (take 256 (drop 1280 l))
-    && same (table 2560 sessionRow (s .sessions)) (drop 1536 l)))))))))
-same-image s l h =
+    && (same (table 512 sessionRow (s .sessions)) (take 512 (drop 1536 l))
+    && same (zeros 2048) (drop 2048 l))))))))))
+same-image s l h rows-fit =
     rw (
       image-parts s,
       same-at _ _ l 0 4 (low-octets-length 4 (s .clock)),
@@ -44,4 +56,6 @@ same-image s l h =
       same-at _ _ l 128 128 (h .ports-size),
       same-at _ _ l 256 1024 (h .flows-size),
       same-at _ _ l 1280 256 (zeros-length 256),
+      more-room sessionRow 512 2048 (s .sessions) rows-fit,
+      same-at _ _ l 1536 512 rows-fit,
     )

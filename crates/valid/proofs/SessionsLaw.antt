@@ -11,14 +11,13 @@ use borrow.Author.Tests.{lt-ltb}
 use Rattle.octets.specs.Octets.{lowNumber, same}
 use Rattle.octets.specs.Lists.{within, every, ascends}
 use Rattle.octets.proofs.LowLaws.{low-fits}
+use Rattle.octets.proofs.ListLaws.{eqb-turn, within-low, within-high}
 use Rattle.codec.proofs.Places.{Octets}
 use Rattle.machine.specs.declared.Session.{Session}
 use Rattle.machine.specs.Machine.{keyOf}
 use Rattle.plan.specs.Plan.{Plan, flowNumbered, inPlan}
 use Rattle.state.specs.State.{isAllowed, goodSession}
 use Rattle.state.specs.Image.{sessionRow, table, rowsIn, places, sessionIn, stateOf}
-use Rattle.state.proofs.Cuts.{eqb-turn}
-use Rattle.state.proofs.Rules.{within-low, within-high}
 use Rattle.state.proofs.RowLaws.{session-exact, session-key-in, session-length}
 use Rattle.state.proofs.PlaceLaws.{numbered-flow, numbered-none, numbered-within}
 use Rattle.valid.specs.Pass.{goodIn, sessionFits, okSessions}
@@ -74,9 +73,9 @@ module _ (b : List ℕ)
   unfolding sessionFits
   fit last l o h some = rw (session-exact l o h, session-key-in l, good-in (sessionIn l) (source-fits l o))
 
-  pub sessions-law : (t : List ℕ) → Octets t → length t ≡ 2560
+  pub sessions-law : (t : List ℕ) → Octets t → length t ≡ 512
       → let xs = rowsIn 16 32 sessionIn t in
-      okSessions b t ≡ ((ascends keyOf 0 xs && every (goodSession (stateOf b)) xs) && same (table 2560 sessionRow xs) t)
+      okSessions b t ≡ ((ascends keyOf 0 xs && every (goodSession (stateOf b)) xs) && same (table 512 sessionRow xs) t)
   unfolding okSessions
   sessions-law t o h =
       let pass : _

@@ -7,12 +7,12 @@ use native.Mathlib.Omega.{arith}
 use lib.Dec.{eqb, ltb, leb}
 use borrow.Author.Tests.{eq-eqb, ne-eqb, le-leb, lt-leb}
 use Rattle.octets.specs.Lists.{within, every, first}
-use Rattle.octets.proofs.Cases.{by-eq, by-le}
 use Rattle.octets.proofs.Same.{both-true}
+use Rattle.octets.proofs.Cases.{by-eq, by-le}
+use Rattle.octets.proofs.ListLaws.{within-low, within-high}
 use Rattle.codec.specs.FrameSet.{uni, enni, untagged}
 use Rattle.plan.specs.declared.Port.{Port}
 use Rattle.plan.specs.Plan.{Plan, noPort, portNumbered, inPlan, goodAddress, goodVid, goodKind, goodPort}
-use Rattle.state.proofs.Rules.{within-low, within-high}
 use Rattle.valid.specs.Pass.{setFits}
 
 -- the port of a number is none, or good

@@ -6,8 +6,8 @@ use mathlib.Core.List.{List}
 use Prim.Native.Nat.{ℕ, suc, _+_, _-_, _*_, _<_, _≤_}
 use native.Mathlib.Nat.{zero-mul, add-mul, one-mul, sub-zero}
 use native.Mathlib.Omega.{arith}
-use lib.ListN.{length, drop, take, drop-of-length-le, length-drop}
-use lib.Seq.{drop-drop, take-all}
+use lib.ListN.{length, drop, drop-of-length-le}
+use lib.Seq.{drop-drop}
 use borrow.Author.Tests.{eq-eqb, ne-eqb}
 use Rattle.octets.specs.Octets.{lowNumber, allZero}
 use Rattle.valid.specs.Pass.{okRows}
@@ -61,10 +61,7 @@ module _ {S : Type 0} where
           left = rw (next-row, ← f) (simp (one, ne-eqb (lowNumber 8 row) 0 (λ z. more (read ∙ z)), e) at (p .left));
         }
 
--- a part up to the end of the table, and none behind it
-pub rest-zero : (t : List ℕ) (at : ℕ) {r : Bool} → r ≡ allZero (take (length t - at) (drop at t)) → r ≡ allZero (drop at t)
-rest-zero t at e = rw (take-all (length t - at) (drop at t) (omega (arith, length-drop at t))) at e
-
+-- nothing stands behind the table
 pub none-behind : (t : List ℕ) (at : ℕ) → length t ≤ at → allZero (drop at t) ≡ true
 unfolding allZero
 none-behind t at h = rw (drop-of-length-le t h)

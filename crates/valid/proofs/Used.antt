@@ -2,17 +2,17 @@
 use mathlib.Core.Path.{_≡_, refl, sym, ap, _∙_}
 use mathlib.Core.Bool.{true, false, not, false≢true}
 use mathlib.Core.List.{List, [], _∷_, map}
-use Prim.Native.Nat.{ℕ, suc, zero, _+_, _-_, _<_, _≤_}
+use Prim.Native.Nat.{ℕ, suc, zero, _+_, _<_, _≤_}
 use native.Mathlib.Omega.{arith}
 use lib.Dec.{eqb, leb}
 use lib.ListN.{length, getD}
 use borrow.Author.Tests.{eq-eqb, ne-eqb, le-leb, not-true}
 use Rattle.octets.specs.Lists.{within, every, some, count, distinct}
-use Rattle.octets.proofs.Cases.{by-eq, by-le}
 use Rattle.octets.proofs.Same.{both-true}
+use Rattle.octets.proofs.Cases.{by-eq, by-le}
+use Rattle.octets.proofs.ListLaws.{within-low, within-high}
 use Rattle.plan.specs.declared.Flow.{Flow}
 use Rattle.state.specs.Image.{placeFrom, places}
-use Rattle.state.proofs.Rules.{within-low, within-high}
 
 abbrev pub numbers : List Flow → List ℕ
 numbers fs = map (λ f. f .number) fs
@@ -100,5 +100,3 @@ equal-used (x ∷ a) (y ∷ b) e h u =
     (λ t some. h 0 some) in
     let v : _ = rw head at u in
     rw (head, equal-used a b (omega arith) (λ i. h (suc i)) (omega arith))
-
--- ---- the places one by one

@@ -1,6 +1,6 @@
 // The flows' rows of an image: are they right? Nothing is compared twice: rows ascend, and each number leads back to its row.
 use crate::marks::used;
-use octets::all_zero;
+use crate::rest::rest_zero;
 use octets::low4;
 use octets::low8;
 use state::port_at;
@@ -9,7 +9,8 @@ ghost use mathlib.Core.Path.{_≡_};
 ghost use mathlib.Core.Bool.{_&&_};
 ghost use Prim.Native.Nat.{_+_, _≤_};
 ghost use lib.Dec.{eqb, leb};
-ghost use lib.ListN.{length, drop};
+ghost use lib.ListN.{length, take, drop};
+ghost use Rattle.octets.specs.Lists.{count};
 ghost use Rattle.plan.specs.Plan.{portNumbered};
 ghost use Rattle.state.specs.Image.{stateOf};
 ghost use Rattle.valid.specs.Pass.{oddOf, marksOf, octetSum, setFits, placeFits, okFlows};
@@ -96,8 +97,14 @@ fn place_fits(b: &[u8], place: usize, low: u32) -> bool
     wide(b[63 + number as usize]) == place
 }
 
-fn marks_fit(odd: u64, marks: u64, rows: usize, places: usize) -> bool
-    ensures { λ r. ⌜ r ≡ (eqb odd 0 && leb (octetSum 8 marks) 128 && eqb rows places) ⌝ }
+// The places are counted beside the comparison: there the compiler counts all of them at once.
+fn marks_fit(b: &[u8], odd: u64, marks: u64, rows: usize) -> bool
+    requires { ⌜ length (now b) ≡ 4096 ⌝ }
+    ensures { λ r. ⌜ r
+        ≡ (eqb odd 0
+        && leb (octetSum 8 marks) 128
+        && eqb rows (count (leb 1) (take 32 (drop 64 (now (b .entry))))))
+        ⌝ }
 {
     if odd != 0 {
         return false;
@@ -105,14 +112,13 @@ fn marks_fit(odd: u64, marks: u64, rows: usize, places: usize) -> bool
     if 128 < octet_sum(marks) {
         return false;
     }
-    rows == places
+    rows == used(&b[64..96])
 }
 
 pub fn flows_fit(b: &[u8], t: &[u8]) -> bool
     requires { ⌜ (length (now b) ≡ 4096) × (length (now t) ≡ 1024) ⌝ }
     ensures { λ r. ⌜ r ≡ okFlows (now (b .entry)) (now (t .entry)) ⌝ }
 {
-    let places = used(&b[64..96]);
     let mut i: usize = 0;
     let mut last: u32 = 0;
     let mut odd: u64 = 0;
@@ -122,8 +128,8 @@ pub fn flows_fit(b: &[u8], t: &[u8]) -> bool
     while i < 32 {
         let at = i * 32;
         if low8(t, at) == 0 {
-            if marks_fit(odd, marks, i, places) {
-                return all_zero(&t[at..]);
+            if marks_fit(b, odd, marks, i) {
+                return rest_zero(t, at);
             }
             return false;
         }
@@ -146,5 +152,5 @@ pub fn flows_fit(b: &[u8], t: &[u8]) -> bool
             return false;
         }
     }
-    marks_fit(odd, marks, i, places)
+    marks_fit(b, odd, marks, i)
 }

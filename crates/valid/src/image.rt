@@ -14,18 +14,21 @@ ghost use Rattle.octets.specs.Lists.{distinct};
 ghost use Rattle.state.specs.Image.{portIn, rowsIn, okImage};
 ghost use Rattle.valid.specs.Pass.{okPorts, okFlows};
 
-// Are the octets 0 that have no meaning yet, before and behind the flows' marks and before the sessions?
+// Are the octets 0 that have no meaning yet, before and behind the flows' marks and before and behind the sessions?
 fn free_zero(b: &[u8]) -> bool
     requires { ⌜ length (now b) ≡ 4096 ⌝ }
     ensures { λ r. ⌜ r
         ≡ (allZero (take 28 (drop 4 (now (b .entry))))
         && allZero (take 32 (drop 96 (now (b .entry))))
-        && allZero (take 256 (drop 1280 (now (b .entry)))))
+        && allZero (take 256 (drop 1280 (now (b .entry))))
+        && allZero (take 2048 (drop 2048 (now (b .entry)))))
         ⌝ }
 {
     if all_zero(&b[4..32]) {
         if all_zero(&b[96..128]) {
-            return all_zero(&b[1280..1536]);
+            if all_zero(&b[1280..1536]) {
+                return all_zero(&b[2048..4096]);
+            }
         }
     }
     false
@@ -56,7 +59,7 @@ pub fn is_image(b: &[u8]) -> bool
     if free_zero(b) {
         if plan_fits(b) {
             if allowed_fits(&b[32..64], &b[64..96]) {
-                return sessions_fit(b, &b[1536..]);
+                return sessions_fit(b, &b[1536..2048]);
             }
         }
     }

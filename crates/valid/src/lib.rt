@@ -3,6 +3,7 @@ mod flows;
 mod image;
 mod marks;
 mod ports;
+mod rest;
 mod sessions;
 
 pub use image::is_image;

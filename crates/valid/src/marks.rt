@@ -34,13 +34,7 @@ pub fn used(places: &[u8]) -> usize
 fn wrong(allowed: u8, place: u8) -> u8
     ensures { λ r. ⌜ r ≡ cond (eqb allowed 0 || (eqb allowed 1 && leb 1 place)) 0 1 ⌝ }
 {
-    if allowed == 0 {
-        return 0;
-    }
-    if allowed == 1 {
-        if place == 0 {
-            return 1;
-        }
+    if allowed as usize <= mark(place) {
         return 0;
     }
     1

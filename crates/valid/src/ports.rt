@@ -1,6 +1,6 @@
 // The ports' rows of an image: are they right?
+use crate::rest::rest_zero;
 use codec::is_group;
-use octets::all_zero;
 use octets::low6;
 use octets::low8;
 use plan::Port;
@@ -69,7 +69,7 @@ pub fn ports_fit(t: &[u8]) -> bool
             if last == 0 {
                 return false;
             }
-            return all_zero(&t[at..]);
+            return rest_zero(t, at);
         }
         if port_fits(t, at, last) {
             last = t[at + 7];

@@ -1,7 +1,7 @@
 // The sessions' rows of an image: are they right?
+use crate::rest::rest_zero;
 use codec::is_group;
 use machine::Session;
-use octets::all_zero;
 use octets::low2;
 use octets::low8;
 use state::mp_of;
@@ -130,7 +130,7 @@ fn session_fits(b: &[u8], t: &[u8], at: usize, last: u64) -> bool
 }
 
 pub fn sessions_fit(b: &[u8], t: &[u8]) -> bool
-    requires { ⌜ (length (now b) ≡ 4096) × (length (now t) ≡ 2560) ⌝ }
+    requires { ⌜ (length (now b) ≡ 4096) × (length (now t) ≡ 512) ⌝ }
     ensures { λ r. ⌜ r ≡ okSessions (now (b .entry)) (now (t .entry)) ⌝ }
 {
     let mut i: usize = 0;
@@ -139,7 +139,7 @@ pub fn sessions_fit(b: &[u8], t: &[u8]) -> bool
         let at = i * 32;
         let key = low8(t, at);
         if key == 0 {
-            return all_zero(&t[at..]);
+            return rest_zero(t, at);
         }
         if session_fits(b, t, at, last) {
             last = key;
@@ -148,5 +148,5 @@ pub fn sessions_fit(b: &[u8], t: &[u8]) -> bool
             return false;
         }
     }
-    all_zero(&t[512..])
+    true
 }

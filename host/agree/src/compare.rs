@@ -1,10 +1,10 @@
 //! The comparison of library and model.
 
-use std::io::{self, Write};
-
 use image::{Reading, State};
 
 use crate::query::Query;
+
+pub use random::tell;
 
 /// Whether the octets are taken for a valid state's image. Stops the test unless library and model agree on that and
 /// on the answer, and the octets are the image of the state that the model reads.
@@ -39,9 +39,4 @@ fn report(octets: &[u8]) -> String {
     }
     let faults = Reading::of(octets).map(|reading| reading.faults);
     format!("{report}{} octets; faults: {faults:?}", octets.len())
-}
-
-/// Prints a line of figures, also from a test that passes, whose usual output is not shown.
-pub fn tell(line: &str) {
-    writeln!(io::stderr(), "{line}").expect("the figures can be printed");
 }

@@ -7,7 +7,8 @@ mod alter_session;
 pub mod compare;
 pub mod damage;
 pub mod query;
-pub mod random;
 pub mod samples;
 pub mod slips;
 pub mod states;
+
+pub use random;

@@ -9,7 +9,7 @@ use Rattle.codec.specs.FrameSet.{uni, enni, untagged, c-tagged, s-tagged, group
 use Rattle.plan.specs.declared.Port.{Port}
 use Rattle.plan.specs.declared.Flow.{Flow}
 use Rattle.plan.specs.Plan.{Plan, up, mip, noPort, portNumbered, setKey, flowKey, inPlan, mpsOf, mpCount}
-use Rattle.plan.specs.Plan.{goodAddress, goodVid, goodKind, goodPort, goodFlow, keepsRules}
+use Rattle.plan.specs.Plan.{goodAddress, goodVid, goodKind, goodPort, goodFlow, soFar, keepsRules}
 use Rattle.plan.proofs.Examples.{benchPlan}
 
 -- number, kind, address
@@ -83,7 +83,7 @@ broken =
 
 -- Does a plan keep the rules? To unfold it is to unfold all that the rules compute.
 unfoldable pub keeps : Plan → Bool
-unfolding keepsRules goodFlow goodPort goodKind goodVid goodAddress mpCount mpsOf inPlan flowKey setKey portNumbered noPort group
+unfolding keepsRules soFar goodFlow goodPort goodKind goodVid goodAddress mpCount mpsOf inPlan flowKey setKey portNumbered noPort group
     distinct ascends first count some every within
 keeps p = keepsRules p
 

@@ -10,55 +10,43 @@ use Rattle.octets.specs.Octets.{lowNumber}
 use Rattle.plan.specs.Plan.{portNumbered}
 use Rattle.state.specs.Image.{stateOf}
 use Rattle.valid.specs.Pass.{noneSeen, flowFits, flowSeen, flowsRight, okFlows}
-use Rattle.valid.proofs.TurnLaws.{Passing, ok-start, ok-end, ok-bad, ok-next, ok-done, rest-zero, none-behind}
+use Rattle.valid.proofs.TurnLaws.{Passing, ok-start, ok-end, ok-bad, ok-next, ok-done, none-behind}
 use Rattle.valid.proofs.FlowTest.{seen, flow-low, flow-seen, set-bad, place-bad, flow-good, right-at}
 use Rattle.valid.proofs.flows.flows_fit.Statement.{statement}
 use Rattle.valid.proofs.flows.flows_fit.Tie as tie
 
 abbrev Inv-loop : tie.InvT-loop
-Inv-loop b t places i₀ last₀ odd₀ marks₀ port₀ kind₀ i last odd marks port kind =
+Inv-loop b t i₀ last₀ odd₀ marks₀ port₀ kind₀ i last odd marks port kind =
     Passing (flowFits b) flowSeen (flowsRight b) 32 32 i (seen last i odd marks) noneSeen t
     × ((kind ≡ portNumbered port (stateOf b .plan) .kind) × (marks ≤ i * 0x0404040404040404))
 
 abbrev μ-loop : tie.MeasureT-loop
-μ-loop b t places i₀ last₀ odd₀ marks₀ port₀ kind₀ i last odd marks port kind = 32 - i
+μ-loop b t i₀ last₀ odd₀ marks₀ port₀ kind₀ i last odd marks port kind = 32 - i
 
 -- the row of a turn; its port and set, and its port's kind, as they were read
 abbrev row : tie.After-low4 Inv-loop μ-loop → List ℕ
 row c =
     drop (c .before .before .before .before .loop .i * 32)
-    (now (c .before .before .before .before .before .before .before .before .before .before .before .args .t))
+    (now (c .before .before .before .before .before .before .before .before .before .args .t))
 
 keyed : (c : tie.After-low4 Inv-loop μ-loop) → c .low4 .result ≡ lowNumber 4 (drop 4 (row c))
 keyed c = rw drop-drop (c .low4 .ensures)
 
 known : (c : tie.After-kind-again Inv-loop μ-loop)
     → let r = c .before .before .before in
-    let a = r .before .before .before .before .before .before .before .before .before .before .before .args in
+    let a = r .before .before .before .before .before .before .before .before .before .args in
     c .kind-again .result ≡ portNumbered (getD (row r) 7 0) (stateOf (now (a .b)) .plan) .kind
 known c = rw getD-drop (c .kind-again .ensures)
 
 -- a row that does not fit
 bad : (c : tie.After-low4 Inv-loop μ-loop)
-    → let a = c .before .before .before .before .before .before .before .before .before .before .before .args in
+    → let a = c .before .before .before .before .before .before .before .before .before .args in
     let s = c .before .before .before .before .loop in
     flowFits (now (a .b)) (seen (s .last) (s .i) (s .odd) (s .marks)) (row c) ≡ false → false ≡ okFlows (now (a .b)) (now (a .t))
 unfolding okFlows
 bad c e =
     let s : _ = c .before .before .before .before .loop in
     ok-bad (s .inv .0) (omega arith) (c .before .before .low8 .ensures) (c .before .if1 .left) e
-
-sub-used : tie.Need-sub-used Inv-loop μ-loop
-sub-used c = omega arith
-
-part-used-start : tie.Need-part-used-start Inv-loop μ-loop
-part-used-start c = omega arith
-
-part-used-end : tie.Need-part-used-end Inv-loop μ-loop
-part-used-end c = omega arith
-
-used-requires : tie.Need-used-requires Inv-loop μ-loop
-used-requires c κs = omega arith
 
 shared-slice-read-port : tie.Need-shared-slice-read-port Inv-loop μ-loop
 shared-slice-read-port c = omega arith
@@ -69,7 +57,7 @@ kind-of-requires c κs = omega arith
 loop-holds : tie.Need-loop-holds Inv-loop μ-loop
 unfolding noneSeen
 loop-holds c =
-    let a : _ = c .before .before .before .before .before .before .args in
+    let a : _ = c .before .before .before .before .args in
     let start : _ = ok-start (flowFits (now (a .b))) flowSeen (flowsRight (now (a .b))) 32 32 noneSeen (now (a .t)) in
     (start, (c .kind-of .ensures, omega arith))
 
@@ -80,40 +68,27 @@ low8-requires : tie.Need-low8-requires Inv-loop μ-loop
 low8-requires c κs = omega arith
 
 marks-fit-requires : tie.Need-marks-fit-requires Inv-loop μ-loop
-marks-fit-requires c κs = tt
+marks-fit-requires c κs = omega arith
 
-sub-all-zero : tie.Need-sub-all-zero Inv-loop μ-loop
-sub-all-zero c = omega arith
-
-part-all-zero-start : tie.Need-part-all-zero-start Inv-loop μ-loop
-part-all-zero-start c = omega arith
-
-part-all-zero-end : tie.Need-part-all-zero-end Inv-loop μ-loop
-part-all-zero-end c = omega arith
-
-all-zero-requires : tie.Need-all-zero-requires Inv-loop μ-loop
-all-zero-requires c κs = tt
+rest-zero-requires : tie.Need-rest-zero-requires Inv-loop μ-loop
+rest-zero-requires c κs = (omega arith, omega arith)
 
 returns : tie.Need-returns Inv-loop μ-loop
 unfolding okFlows
 returns c =
-    let s : _ = c .before .before .before .before .before .before .before .loop in
-    let u : _ = c .before .before .before .before .before .before .before .before .before .before in
-    let a : _ = u .before .before .before .before .args in
-    let right : _ = right-at (now (a .b)) (s .last) (s .i) (s .odd) (s .marks) (u .used .ensures)
-    (c .before .before .before .marks-fit .ensures) ∙ c .before .before .if2 .taken in
-    let end : _ = ok-end (s .inv .0) (omega arith) (c .before .before .before .before .before .low8 .ensures)
-    (c .before .before .before .before .if1 .taken) in
-    rest-zero (now (a .t)) (s .i * 32) (c .all-zero .ensures) ∙ (rw right at end)
+    let s : _ = c .before .before .before .before .before .before .loop in
+    let a : _ = c .before .before .before .before .before .before .before .before .before .before .before .args in
+    let right : _ = right-at (now (a .b)) (s .last) (s .i) (s .odd) (s .marks) (c .before .before .marks-fit .ensures)
+    ∙ c .before .if2 .taken in
+    c .rest-zero .ensures
+    ∙ (rw right at (ok-end (s .inv .0) (omega arith) (c .before .before .before .before .low8 .ensures) (c .before .before .before .if1 .taken)))
 
 returns-2 : tie.Need-returns-2 Inv-loop μ-loop
 unfolding okFlows
 returns-2 c =
     let s : _ = c .before .before .before .before .before .loop in
-    let u : _ = c .before .before .before .before .before .before .before .before in
-    let a : _ = u .before .before .before .before .args in
-    let wrong : _ = right-at (now (a .b)) (s .last) (s .i) (s .odd) (s .marks) (u .used .ensures) (c .before .marks-fit .ensures)
-    ∙ c .if2 .left in
+    let a : _ = c .before .before .before .before .before .before .before .before .before .before .args in
+    let wrong : _ = right-at (now (a .b)) (s .last) (s .i) (s .odd) (s .marks) (c .before .marks-fit .ensures) ∙ c .if2 .left in
     rw wrong at (ok-end (s .inv .0) (omega arith) (c .before .before .before .low8 .ensures) (c .before .before .if1 .taken))
 
 add-low4 : tie.Need-add-low4 Inv-loop μ-loop
@@ -206,15 +181,14 @@ returns-5 c =
     bad r (set-bad _ _ _ _ _ _ (keyed r) (k .before .before .if3 .left) (known k) (c .before .set-fits .ensures) (c .if4 .left))
 
 marks-fit-requires-2 : tie.Need-marks-fit-requires-2 Inv-loop μ-loop
-marks-fit-requires-2 c κs = tt
+marks-fit-requires-2 c κs = omega arith
 
 returns-6 : tie.Need-returns-6 Inv-loop μ-loop
 unfolding okFlows
 returns-6 c =
     let s : _ = c .before .before .loop in
-    let u : _ = c .before .before .before .before .before in
-    let a : _ = u .before .before .before .before .args in
-    let right : _ = right-at (now (a .b)) (s .last) (s .i) (s .odd) (s .marks) (u .used .ensures) (c .marks-fit2 .ensures) in
+    let a : _ = c .before .before .before .before .before .before .before .args in
+    let right : _ = right-at (now (a .b)) (s .last) (s .i) (s .odd) (s .marks) (c .marks-fit2 .ensures) in
     rw (right, none-behind (now (a .t)) 1024 (omega arith), and-true) at (ok-done (s .inv .0) (omega arith))
 
 pub flows-fit-spec : {M : Type 1} → statement M
@@ -223,20 +197,13 @@ flows-fit-spec =
     (tie.spec
     Inv-loop
     μ-loop
-    sub-used
-    part-used-start
-    part-used-end
-    used-requires
     shared-slice-read-port
     kind-of-requires
     loop-holds
     mul-at
     low8-requires
     marks-fit-requires
-    sub-all-zero
-    part-all-zero-start
-    part-all-zero-end
-    all-zero-requires
+    rest-zero-requires
     returns
     returns-2
     add-low4

@@ -1,8 +1,4 @@
 use mathlib.Core.Path.{sym, _∙_}
-use Prim.Native.Nat.{_-_}
-use native.Mathlib.Omega.{arith}
-use lib.ListN.{length, drop, length-drop}
-use lib.Seq.{take-all}
 use denote.Ref.{now}
 use borrow.Author.Needs.{needs}
 use Rattle.codec.proofs.Places.{Octets}
@@ -59,9 +55,7 @@ sessions-fit-requires c κs = search needs
 returns-2 : tie.Need-returns-2
 returns-2 c =
     let k : _ = c .before .before .before .before .before .before .before .before .before .before in
-    let l : _ = now (k .before .before .args .b) in
-    let behind : _ = take-all (length l - 1536) (drop 1536 l) (omega (arith, length-drop 1536 l)) in
-    (rw behind at (c .sessions-fit .ensures))
+    c .sessions-fit .ensures
     ∙ (rw (
       ← c .before .before .before .before .before .before .before .before .before .free-zero .ensures,
       c .before .before .before .before .before .before .before .before .if2 .taken,

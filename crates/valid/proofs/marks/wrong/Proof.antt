@@ -1,19 +1,17 @@
-use native.Mathlib.Omega.{arith}
-use borrow.Author.Tests.{le-leb, ne-eqb}
+use borrow.Author.Tests.{le-leb, lt-leb}
+use borrow.Author.Needs.{needs}
+use Rattle.valid.proofs.MarkTurns.{at-most-mark}
 use Rattle.valid.proofs.marks.wrong.Statement.{statement}
 use Rattle.valid.proofs.marks.wrong.Tie as tie
 
+mark-requires : tie.Need-mark-requires
+mark-requires c κs = search needs
+
 returns : tie.Need-returns
-returns c = rw (c .if1 .taken)
+returns c = rw (at-most-mark, ← c .before .mark .ensures .0, le-leb _ _ (c .if1 .taken))
 
 returns-2 : tie.Need-returns-2
-returns-2 c = rw (c .before .if2 .taken, c .if3 .taken)
-
-returns-3 : tie.Need-returns-3
-returns-3 c = rw (c .before .if2 .taken, le-leb 1 (c .before .before .before .args .place) (omega arith))
-
-returns-4 : tie.Need-returns-4
-returns-4 c = simp (ne-eqb _ _ (c .before .if1 .left), ne-eqb _ _ (c .if2 .left))
+returns-2 c = rw (at-most-mark, ← c .before .mark .ensures .0, lt-leb _ _ (c .if1 .left))
 
 pub wrong-spec : {M : Type 1} → statement M
-wrong-spec = tie.close (tie.spec returns returns-2 returns-3 returns-4)
+wrong-spec = tie.close (tie.spec mark-requires returns returns-2)

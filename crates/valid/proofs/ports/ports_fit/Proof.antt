@@ -8,7 +8,7 @@ use lib.Seq.{getD-drop}
 use denote.Ref.{now}
 use borrow.Author.Tests.{le-leb}
 use Rattle.valid.specs.Pass.{portFits, okPorts}
-use Rattle.valid.proofs.TurnLaws.{Passing, ok-start, ok-end, ok-bad, ok-next, ok-done, rest-zero, none-behind}
+use Rattle.valid.proofs.TurnLaws.{Passing, ok-start, ok-end, ok-bad, ok-next, ok-done, none-behind}
 use Rattle.valid.proofs.PortTest.{not-none}
 use Rattle.valid.proofs.ports.ports_fit.Statement.{statement}
 use Rattle.valid.proofs.ports.ports_fit.Tie as tie
@@ -34,26 +34,15 @@ returns c =
     let l : _ = c .before .before .before .before .loop in
     rw (c .if2 .taken) at (ok-end (l .inv) (omega arith) (c .before .before .low8 .ensures) (c .before .if1 .taken))
 
-sub-all-zero : tie.Need-sub-all-zero Inv-loop μ-loop
-sub-all-zero c = omega arith
-
-part-all-zero-start : tie.Need-part-all-zero-start Inv-loop μ-loop
-part-all-zero-start c = omega arith
-
-part-all-zero-end : tie.Need-part-all-zero-end Inv-loop μ-loop
-part-all-zero-end c = omega arith
-
-all-zero-requires : tie.Need-all-zero-requires Inv-loop μ-loop
-all-zero-requires c κs = tt
+rest-zero-requires : tie.Need-rest-zero-requires Inv-loop μ-loop
+rest-zero-requires c κs = (omega arith, omega arith)
 
 returns-2 : tie.Need-returns-2 Inv-loop μ-loop
 unfolding okPorts
 returns-2 c =
-    let l : _ = c .before .before .before .before .before .before .loop in
-    let t : _ = now (c .before .before .before .before .before .before .before .before .args .t) in
-    let k : _ = c .before .before .before .before .low8 .ensures in
-    rest-zero t (l .i * 16) (c .all-zero .ensures)
-    ∙ (rw (le-leb 1 (l .last) (omega arith)) at (ok-end (l .inv) (omega arith) k (c .before .before .before .if1 .taken)))
+    let l : _ = c .before .before .before .before .before .loop in
+    c .rest-zero .ensures
+    ∙ (rw (le-leb 1 (l .last) (omega arith)) at (ok-end (l .inv) (omega arith) (c .before .before .before .low8 .ensures) (c .before .before .if1 .taken)))
 
 port-fits-requires : tie.Need-port-fits-requires Inv-loop μ-loop
 port-fits-requires c κs = omega arith
@@ -100,10 +89,7 @@ ports-fit-spec =
     mul-at
     low8-requires
     returns
-    sub-all-zero
-    part-all-zero-start
-    part-all-zero-end
-    all-zero-requires
+    rest-zero-requires
     returns-2
     port-fits-requires
     add-last

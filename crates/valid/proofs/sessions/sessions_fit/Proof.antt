@@ -1,11 +1,11 @@
 use mathlib.Core.Path.{sym, _∙_}
 use mathlib.Core.Bool.{true}
-use Prim.Native.Nat.{_-_, _*_}
+use Prim.Native.Nat.{_-_}
 use native.Mathlib.Omega.{arith}
 use denote.Ref.{now}
 use Rattle.octets.specs.Octets.{lowNumber}
 use Rattle.valid.specs.Pass.{sessionFits, okSessions}
-use Rattle.valid.proofs.TurnLaws.{Passing, ok-start, ok-end, ok-bad, ok-next, ok-done, rest-zero}
+use Rattle.valid.proofs.TurnLaws.{Passing, ok-start, ok-end, ok-bad, ok-next, ok-done, none-behind}
 use Rattle.valid.proofs.sessions.sessions_fit.Statement.{statement}
 use Rattle.valid.proofs.sessions.sessions_fit.Tie as tie
 
@@ -26,25 +26,14 @@ mul-at c = omega arith
 low8-requires : tie.Need-low8-requires Inv-loop μ-loop
 low8-requires c κs = omega arith
 
-sub-all-zero : tie.Need-sub-all-zero Inv-loop μ-loop
-sub-all-zero c = omega arith
-
-part-all-zero-start : tie.Need-part-all-zero-start Inv-loop μ-loop
-part-all-zero-start c = omega arith
-
-part-all-zero-end : tie.Need-part-all-zero-end Inv-loop μ-loop
-part-all-zero-end c = omega arith
-
-all-zero-requires : tie.Need-all-zero-requires Inv-loop μ-loop
-all-zero-requires c κs = tt
+rest-zero-requires : tie.Need-rest-zero-requires Inv-loop μ-loop
+rest-zero-requires c κs = (omega arith, omega arith)
 
 returns : tie.Need-returns Inv-loop μ-loop
 unfolding okSessions
 returns c =
-    let l : _ = c .before .before .before .before .before .loop in
-    rest-zero (now (c .before .before .before .before .before .before .before .before .args .t)) (l .i * 32)
-    (c .all-zero .ensures)
-    ∙ ok-end (l .inv) (omega arith) (c .before .before .before .low8 .ensures) (c .before .before .if1 .taken)
+    c .rest-zero .ensures
+    ∙ ok-end (c .before .before .before .before .loop .inv) (omega arith) (c .before .before .low8 .ensures) (c .before .if1 .taken)
 
 session-fits-requires : tie.Need-session-fits-requires Inv-loop μ-loop
 session-fits-requires c κs = (omega arith, omega arith)
@@ -67,23 +56,10 @@ returns-2 c =
     ok-bad (c .before .before .before .before .before .loop .inv) (omega arith) (c .before .before .before .low8 .ensures)
     (c .before .before .if1 .left) (sym (c .before .session-fits .ensures) ∙ c .if2 .left)
 
-sub-all-zero-2 : tie.Need-sub-all-zero-2 Inv-loop μ-loop
-sub-all-zero-2 c = omega arith
-
-part-all-zero-start-2 : tie.Need-part-all-zero-start-2 Inv-loop μ-loop
-part-all-zero-start-2 c = omega arith
-
-part-all-zero-end-2 : tie.Need-part-all-zero-end-2 Inv-loop μ-loop
-part-all-zero-end-2 c = omega arith
-
-all-zero-requires-2 : tie.Need-all-zero-requires-2 Inv-loop μ-loop
-all-zero-requires-2 c κs = tt
-
 returns-3 : tie.Need-returns-3 Inv-loop μ-loop
 unfolding okSessions
 returns-3 c =
-    rest-zero (now (c .before .before .before .before .before .before .args .t)) 512 (c .all-zero2 .ensures) ∙ ok-done
-    (c .before .before .before .loop .inv) (omega arith)
+    rw (none-behind (now (c .before .before .before .before .args .t)) 512 (omega arith)) at (ok-done (c .before .loop .inv) (omega arith))
 
 pub sessions-fit-spec : {M : Type 1} → statement M
 sessions-fit-spec =
@@ -94,18 +70,11 @@ sessions-fit-spec =
     loop-holds
     mul-at
     low8-requires
-    sub-all-zero
-    part-all-zero-start
-    part-all-zero-end
-    all-zero-requires
+    rest-zero-requires
     returns
     session-fits-requires
     add-i
     loop-less
     loop-again
     returns-2
-    sub-all-zero-2
-    part-all-zero-start-2
-    part-all-zero-end-2
-    all-zero-requires-2
     returns-3)

@@ -1,0 +1,124 @@
+-- Requests rewritten as a later version would send them, by computation.
+use mathlib.Core.Path.{_≡_, refl}
+use mathlib.Core.Bool.{Bool, true, false}
+use mathlib.Core.List.{List, [], _∷_, map}
+use Prim.Native.Nat.{ℕ, _+_, _%_, _<_, _≤_}
+use Prim.Native.String.{String}
+use native.Mathlib.Omega.{arith}
+use lib.ListN.{length}
+use Rattle.octets.specs.Octets.{octets}
+use Rattle.octets.specs.Text.{hex, hexed, text, digit}
+use Rattle.codec.specs.Tlv.{Tlv, subtype, tlvOctets}
+use Rattle.codec.specs.Later.{Parts, Whole, AllWhole, Laid, LaterParts, Added, ended, kept, new, pduIn, tlvList, isUnknown}
+
+-- octets as they are written
+shown : String → List ℕ
+unfolding hex hexed text digit
+shown written = hex written
+
+tlv : ℕ → String → Tlv
+tlv kind value = record { kind = kind; value = shown value }
+
+-- types and values, and whether such a TLV is unknown to us
+abbrev values : List (ℕ × String × Bool)
+values =
+    (9, "FF", true)
+    ∷ (9, "", true)
+    ∷ (31, "41", true)
+    -- type 37 with subtype 1, also of a wrong length, with another subtype, and with none
+    ∷ (37, "01 00 00 00 3C", false)
+    ∷ (37, "01", false)
+    ∷ (37, "02 00 00 00 3C", true)
+    ∷ (37, "00", true)
+    ∷ (37, "", false)
+    ∷ []
+
+timer-types-are-known : map (λ row. (row .0, row .1, isUnknown (tlv (row .0) (row .1)))) values ≡ values
+unfolding isUnknown subtype tlv shown
+timer-types-are-known = refl
+
+-- an Activate of 60 seconds at level 4, with these TLVs
+activate : ℕ → ℕ → ℕ → List ℕ → List Tlv → Parts
+activate version flags offset ahead tlvs = record {
+  level = 4;
+  version = version;
+  flags = flags;
+  offset = offset;
+  fixed = shown "01 00 02 00 00 00 00 01";
+  ahead = ahead;
+  tlvs = tlvs;
+  behind = [];
+}
+
+abbrev timer : Tlv
+timer = tlv 37 "01 00 00 00 3C"
+
+abbrev b1 : Parts
+b1 = activate 0 0 8 [] (timer ∷ [])
+
+-- B1 "with first octet 81, offset 0A, two octets added and TLV 09 00 01 FF before the timer"
+abbrev b2 : Parts
+b2 = activate 1 0 10 (0 ∷ 0 ∷ []) (tlv 9 "FF" ∷ timer ∷ [])
+
+-- the last version, all reserved flags set, an unknown TLV ahead of the End
+abbrev last : Parts
+last = activate 31 0xF8 9 (0xFF ∷ []) (timer ∷ tlv 37 "02" ∷ [])
+
+octets-of-the-parts :
+    map pduIn (b1 ∷ b2 ∷ last ∷ []) ≡
+    map shown (
+    "80 39 00 08 01 00 02 00 00 00 00 01 25 00 05 01 00 00 00 3C 00"
+    ∷ "81 39 00 0A 01 00 02 00 00 00 00 01 00 00 09 00 01 FF 25 00 05 01 00 00 00 3C 00"
+    ∷ "9F 39 F8 09 01 00 02 00 00 00 00 01 FF 25 00 05 01 00 00 00 3C 25 00 01 02 00"
+    ∷ [])
+unfolding pduIn tlvList tlvOctets octets activate tlv shown
+octets-of-the-parts = refl
+
+laid : (version flags offset : ℕ) (ahead : List ℕ) (tlvs : List Tlv) → version < 32 → flags < 256 → offset < 256
+    → offset ≡ 8 + length ahead → AllWhole tlvs → Laid (activate version flags offset ahead tlvs)
+unfolding activate shown
+laid version flags offset ahead tlvs v f o first whole = record {
+  level-small = omega arith;
+  version-small = v;
+  flags-small = f;
+  offset-small = o;
+  eight = refl;
+  first = first;
+  whole = whole;
+}
+
+whole : Whole timer × Whole (tlv 9 "FF") × Whole (tlv 37 "02")
+unfolding tlv shown
+whole = (
+  record { kind-some = omega arith; kind-small = omega arith; short = omega arith },
+  record { kind-some = omega arith; kind-small = omega arith; short = omega arith },
+  record { kind-some = omega arith; kind-small = omega arith; short = omega arith },
+)
+
+all-laid : Laid b1 × Laid b2 × Laid last
+all-laid = (
+  laid 0 0 8 [] _ (omega arith) (omega arith) (omega arith) refl (whole .0, tt),
+  laid 1 0 10 (0 ∷ 0 ∷ []) _ (omega arith) (omega arith) (omega arith) refl (whole .1, (whole .0, tt)),
+  laid 31 0xF8 9 (0xFF ∷ []) _ (omega arith) (omega arith) (omega arith) refl (whole .0, (whole .2, tt)),
+)
+
+later : (version flags offset : ℕ) (more : List ℕ) (tlvs : List Tlv) → 1 ≤ version → flags % 8 ≡ 0 → Added (timer ∷ []) tlvs
+    → LaterParts b1 (activate version flags offset more tlvs)
+unfolding activate
+later version flags offset more tlvs v f added = record {
+  more = more;
+  level-same = refl;
+  later = v;
+  flags-same = f;
+  fixed-same = refl;
+  ahead-more = refl;
+  tlvs-added = added;
+  behind-same = refl;
+}
+
+all-later : LaterParts b1 b2 × LaterParts b1 last
+unfolding isUnknown subtype tlv shown
+all-later = (
+  later 1 0 10 (0 ∷ 0 ∷ []) _ (omega arith) refl (new refl (kept ended)),
+  later 31 0xF8 9 (0xFF ∷ []) _ (omega arith) refl (kept (new refl ended)),
+)

@@ -1,0 +1,78 @@
+-- Time in a run: the milliseconds that accepted readings say, and the calls that leave a machine to them.
+use mathlib.Core.List.{List, [], _∷_}
+use mathlib.Core.Bool.{Bool, true, false, cond, _&&_, _||_, not}
+use Prim.Native.Nat.{ℕ, _+_}
+use lib.Dec.{eqb}
+use Rattle.codec.specs.declared.FrameSet.{FrameSet}
+use Rattle.codec.specs.declared.Place.{Place}
+use Rattle.codec.specs.declared.Place.the-variants.{NoSet, InSet}
+use Rattle.codec.specs.declared.Addressed.{Addressed}
+use Rattle.codec.specs.declared.Addressed.the-variants.{Elsewhere, Unicast, Multicast}
+use Rattle.codec.specs.declared.Request.{Request}
+use Rattle.codec.specs.declared.Request.the-variants.{Malformed, Reserved, Activate, Deactivate, State as StateRequest}
+use Rattle.codec.specs.FrameSet.{destination, setOf}
+use Rattle.codec.specs.Request.{requestOf}
+use Rattle.machine.specs.Time.{elapsed}
+use Rattle.plan.specs.Plan.{flowNumbered}
+use Rattle.calls.specs.Frame.{Arrived, pdu, forMp}
+use Rattle.calls.specs.Calls.{Call, make, frame, tick, allow, prohibit, notice, restart}
+use Rattle.demands.specs.World.{World, sameSet}
+use Rattle.demands.specs.Calls.{refusal, call}
+use Rattle.demands.specs.Frame.{arrived}
+use Rattle.demands.specs.Data.{placeAt, isOwn}
+
+-- ---- the milliseconds of a run
+
+module _ (keys : ℕ) where
+  -- of a call: those of a tick that is not refused
+  unfoldable pub elapsedBy : World → Call → ℕ
+  elapsedBy w (make text clock) = 0
+  elapsedBy w (frame port side octets out) = 0
+  elapsedBy w (tick clock) = cond (eqb (refusal keys w (tick clock)) 0) (elapsed clock (w .clock)) 0
+  elapsedBy w (allow flow) = 0
+  elapsedBy w (prohibit flow) = 0
+  elapsedBy w (notice out) = 0
+  elapsedBy w (restart clock) = 0
+
+  unfoldable pub elapsedOver : World → List Call → ℕ
+  elapsedOver w [] = 0
+  elapsedOver w (c ∷ cs) = elapsedBy w c + elapsedOver (call keys w c .world) cs
+
+-- ---- calls that leave a machine alone
+
+-- a request for a change: Activate or Deactivate
+unfoldable pub changes : Request → Bool
+changes Malformed = false
+changes Reserved = false
+changes (Activate seconds) = true
+changes Deactivate = true
+changes StateRequest = false
+
+unfoldable pub asksChange : Arrived → Addressed → Bool
+asksChange a Elsewhere = false
+asksChange a Unicast = changes (requestOf Unicast (destination (a .frame)) (pdu a))
+asksChange a Multicast = changes (requestOf Multicast (destination (a .frame)) (pdu a))
+
+-- Does a frame in this place carry such a request for an MP?
+unfoldable pub asks : World → ℕ → ℕ → List ℕ → Place → Bool
+asks w port side f NoSet = false
+asks w port side f (InSet set tags) = asksChange (arrived w port side set tags f) (forMp (arrived w port side set tags f))
+
+module _ (keys : ℕ) (p : ℕ) (s : FrameSet) (x : ℕ) where
+  -- Does the call leave the machine of p, s and x to the time that passes? A frame does that is not its own, or that asks for no
+  -- change; an allow, a notice that is taken, and a prohibit of another flow.
+  unfoldable pub spares : World → Call → Bool
+  spares w (make text clock) = false
+  spares w (frame port side f out) = not (isOwn w port f p s x && asks w port side f (placeAt w port f))
+  spares w (tick clock) = true
+  spares w (allow flow) = true
+  spares w (prohibit flow) =
+      let f = flowNumbered flow (w .plan) in
+      not (eqb p (f .port) && sameSet s (setOf (f .kind) (f .vid)))
+  spares w (notice out) = true
+  spares w (restart clock) = false
+
+  -- Does each call of a run, or is it refused?
+  unfoldable pub leftAlone : World → List Call → Bool
+  leftAlone w [] = true
+  leftAlone w (c ∷ cs) = (not (eqb (refusal keys w c) 0) || spares w c) && leftAlone (call keys w c .world) cs

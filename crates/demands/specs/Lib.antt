@@ -1,0 +1,9 @@
+pub mod Machine
+pub mod World
+pub mod Frame
+pub mod Calls
+pub mod Runs
+pub mod Later
+pub mod LaterRuns
+pub mod Data
+pub mod Elapsed

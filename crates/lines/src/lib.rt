@@ -1,0 +1,14 @@
+// One line of a plan's text, read.
+mod fields;
+mod lines;
+
+pub use fields::end_of;
+pub use lines::line_of;
+
+// One line of a plan's text. A number above 9,999 is read as 9,999, which is out of range wherever it stands.
+pub enum Said {
+    Unreadable,
+    OfPort(u32, u8, u64),
+    OfFlow(u32, u32, u8, u32),
+    OfMp(u32, u8, u32),
+}

@@ -1,0 +1,6 @@
+mod SeekLaws
+mod CapLaws
+mod ReasonLaws
+mod InsertLaws
+mod AddLaws
+mod ReadLaws

@@ -1,0 +1,7 @@
+pub mod Parts
+pub mod Own
+pub mod Changes
+pub mod Stored
+pub mod Answered
+pub mod Decisions
+pub mod Ways

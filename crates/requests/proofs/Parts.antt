@@ -1,0 +1,39 @@
+-- Parts of a frame: its source, the PDU behind its tag, and the number of the tag's octets, gathered octet by octet.
+use mathlib.Core.Path.{_≡_, _∙_}
+use mathlib.Core.List.{List}
+use Prim.Native.Nat.{ℕ, _+_, _-_, _*_, _^_, _<_, _≤_}
+use native.Mathlib.Nat.{pow-le-pow-right, pow-suc}
+use native.Mathlib.Numerals.{add-one}
+use native.Mathlib.Omega.{arith}
+use lib.ListN.{length, take, drop, getD, length-drop}
+use lib.Seq.{take-all, getD-drop}
+use Rattle.octets.specs.Octets.{number}
+use Rattle.octets.proofs.Laws.{number-parts, number-1}
+use Rattle.octets.proofs.Round.{number-fits}
+use Rattle.codec.specs.FrameSet.{source, pduOf}
+
+-- the part of a frame behind its tag and type is its PDU
+pub pdu-part : (tags : ℕ) (frame : List ℕ) → take (length frame - (14 + tags)) (drop (14 + tags) frame) ≡ pduOf tags frame
+unfolding pduOf
+pdu-part tags frame =
+    take-all (length frame - (14 + tags)) (drop (14 + tags) frame) (omega (arith, length-drop (14 + tags) frame))
+
+pub source-fits : (frame : List ℕ) → ((i : ℕ) → getD frame i 0 < 256) → source frame < 2 ^ 48
+unfolding source
+source-fits frame o = number-fits 6 (drop 6 frame) (λ i. rw getD-drop (o (6 + i)))
+
+-- before octet i, n is the number of those that were met
+pub record Gathering (l : List ℕ) (n i : ℕ) : Type 0 where
+  pub met : n ≡ number i (drop 12 l)
+  pub fits : n < 256 ^ i
+
+module _ {l : List ℕ} {n i : ℕ} (g : Gathering l n i) where
+  pub small : i < 4 → n < 2 ^ 24
+  small h = let p : 256 ^ i ≤ 256 ^ 3 = pow-le-pow-right (omega arith) {j = 3} (omega arith) in omega (arith, p, g .fits)
+
+  pub gather : {x : ℕ} → x ≡ getD l (12 + i) 0 → x < 256 → Gathering l (n * 256 + x) (i + 1)
+  gather e f =
+      record {
+        met = number-parts i 1 12 l (g .met) (e ∙ number-1 (12 + i) l);
+        fits = rw (add-one, pow-suc) (omega (arith, g .fits, f));
+      }

@@ -1,0 +1,5 @@
+pub mod DataLaws
+pub mod FrameLaws
+pub mod ManageLaws
+pub mod OwedLaws
+pub mod NoticeLaws

@@ -1,0 +1,122 @@
+-- A notice written, and its session taken out.
+use mathlib.Core.Path.{_≡_, sym, ap, _∙_}
+use mathlib.Core.Bool.{true}
+use mathlib.Core.List.{List, [], _++_}
+use Prim.Native.Nat.{ℕ, zero, suc, _+_, _-_, _*_, _^_, _<_, _≤_}
+use native.Mathlib.Nat.{zero-add, suc-add}
+use native.Mathlib.Omega.{arith}
+use lib.ListN.{length, take, drop, length-append, length-drop}
+use lib.Seq.{take-all, length-take-le}
+use borrow.Rule.Slice.PartMut.{midOf, putMid}
+use Rattle.octets.specs.Octets.{octets, over}
+use Rattle.octets.proofs.Laws.{octets-length}
+use Rattle.octets.proofs.Over.{then-over, length-over}
+use Rattle.codec.specs.declared.Status.{Status}
+use Rattle.codec.specs.Request.{copied}
+use Rattle.replies.specs.declared.ReplyFields.{ReplyFields}
+use Rattle.replies.specs.Reply.{replyFrame, replyPdu, replyOf}
+use Rattle.machine.specs.declared.Session.{Session}
+use Rattle.machine.specs.declared.Machine.the-variants.{Inactive}
+use Rattle.machine.specs.Machine.{key, keyOf, statusOf}
+use Rattle.plan.specs.declared.Port.{Port}
+use Rattle.plan.specs.Plan.{portNumbered}
+use Rattle.state.specs.State.{State, firstOwed}
+use Rattle.state.specs.Image.{stateOf, okImage}
+use Rattle.state.specs.Rows.{numberedAt, flowOfRow}
+use Rattle.state.proofs.ImageLaws.{ok-valid, image-state}
+use Rattle.state.proofs.PlaceLaws.{numbered-flow, ok-places, ok-numbers}
+use Rattle.store.specs.Stored.{sessionRemoved}
+use Rattle.store.proofs.Images.{laid, removed-image}
+use Rattle.calls.specs.declared.Answer.the-variants.{Noticed}
+use Rattle.calls.specs.Answer.{sends}
+use Rattle.calls.specs.Notice.{portOf, noticeFrame, noticed, noticeServed}
+use Rattle.calls.proofs.Fits.{notice-length}
+use Rattle.requests.specs.Serving.{Served}
+
+-- ---- the frame
+
+-- the last n octets of a number are those of its lowest n
+last-octets : (k n x : ℕ) → drop k (octets (k + n) x) ≡ octets n x
+unfolding octets
+last-octets zero n x = rw zero-add
+last-octets (suc k) n x = rw suc-add (last-octets k n x)
+
+-- the last so many of four octets, as the part that is read from there on
+abbrev lastOf : ℕ → List ℕ → List ℕ
+lastOf w t = take (4 - (4 - w)) (drop (4 - w) t)
+
+tag-octets : (count tag : ℕ) {w : ℕ} {t : List ℕ} → count ≤ 4 → t ≡ octets 4 tag → w ≡ count
+    → lastOf w t ≡ octets count tag
+tag-octets count tag few et ew =
+    let m : 4 - (4 - count) ≡ count = omega arith in
+    let k : 4 - count + count ≡ 4 = omega arith in
+    let d : drop (4 - count) (octets 4 tag) ≡ octets count tag
+    = ap (λ (n : ℕ). drop (4 - count) (octets n tag)) (sym k) ∙ last-octets (4 - count) count tag in
+    rw (ew, et, d, m) (take-all count (octets count tag) (omega (arith, octets-length count tag)))
+
+-- addresses, tag octets and type
+abbrev headOf : ℕ → ℕ → List ℕ → List ℕ
+headOf requester from tag = octets 6 requester ++ octets 6 from ++ tag ++ octets 2 0x8902
+
+head-length : (requester from : ℕ) (tag : List ℕ) → length (headOf requester from tag) ≡ 14 + length tag
+head-length requester from tag = simp (length-append, octets-length) (omega arith)
+
+-- what a notice says
+abbrev fields : Port → Session → Status → ReplyFields
+fields port x status = record { level = x .level; kind = 2; code = x .notice; port = port .address; status = status }
+
+module _ (port : Port) (x : Session) (o : List ℕ)
+    (pre : (x .level < 8) × ((x .count ≤ 4) × ((x .tag < 2 ^ 32) × (2008 ≤ length o))))
+    {w n : ℕ} {t y : List ℕ} (et : t ≡ octets 4 (x .tag)) (ew : w ≡ x .count)
+    (put : (n ≡ 14 + length (lastOf w t)) × (y ≡ over (headOf (x .source) (port .address) (lastOf w t)) o)) where
+  abbrev tag : List ℕ
+  tag = octets (x .count) (x .tag)
+
+  abbrev head : List ℕ
+  head = headOf (x .source) (port .address) tag
+
+  head-end : n ≡ 14 + x .count
+  head-end = put .0 ∙ rw (tag-octets (x .count) (x .tag) (pre .1 .0) et ew, octets-length)
+
+  headed : y ≡ over head o
+  headed = rw (tag-octets (x .count) (x .tag) (pre .1 .0) et ew) at (put .1)
+
+  long : length head ≡ 14 + x .count
+  long = head-length (x .source) (port .address) tag ∙ rw octets-length
+
+  pub rest-room : 21 ≤ length (take (length y - n) (drop n y))
+  rest-room =
+      let ly : length y ≡ length o = rw headed (length-over head o (omega (arith, long, pre))) in
+      let ld : length (drop n y) ≡ length y - n = length-drop n y in
+      omega (arith, pre, head-end, length-take-le (length y - n) (drop n y) (omega arith))
+
+  pub notice-written : {k : ℕ} {status : Status} {z : List ℕ} → status ≡ statusOf Inactive
+      → (k ≡ length (replyOf (fields port x status) 0 t))
+      × (z ≡ over (replyOf (fields port x status) 0 t) (midOf n (length y - n) y))
+      → (n + k ≡ length (noticeFrame port x)) × (putMid n (length y - n) y z ≡ over (noticeFrame port x) o)
+  unfolding noticeFrame replyFrame replyOf copied
+  notice-written es (ek, ez) =
+      let pdu : List ℕ = replyPdu (x .level) 2 (x .notice) (port .address) (statusOf Inactive) [] in
+      let all : length (head ++ pdu) ≡ length head + length pdu = length-append head pdu in
+      let some : length (head ++ pdu) ≡ 27 + x .count = notice-length port x in
+      let end : length head ≡ n = long ∙ sym head-end in
+      (omega (arith, rw es at ek), then-over head pdu o n headed (rw es at ez) end (omega (arith, pre)))
+
+-- ---- the port, and the call
+
+module _ (l : List ℕ) (ok : okImage l ≡ true) where
+  pub port-found : (x : Session) {row number : ℕ} {p : Port} → row ≡ numberedAt (x .flow) l → number ≡ flowOfRow row l .port
+      → p ≡ portNumbered number (stateOf l .plan) → p ≡ portOf (stateOf l) x
+  unfolding portOf
+  port-found x er en ep = rw (ep, en, er, numbered-flow l (ok-places l ok) (ok-numbers l ok) (x .flow))
+
+  pub notice-taken : {x : Session} {p : Port} {n : ℕ} {left out out′ : List ℕ} → x ≡ firstOwed (stateOf l)
+      → p ≡ portOf (stateOf l) x
+      → (n ≡ length (noticeFrame p x)) × (out′ ≡ over (noticeFrame p x) out)
+      → left ≡ sessionRemoved (x .flow * 2 ^ 48 + x .source) l
+      → Served (noticeServed (stateOf l)) (Noticed (p .number) (x .side) n) left out out′
+  unfolding noticeServed noticed sends keyOf key
+  notice-taken {x} ex ep (en, eo) el =
+      let s : State = stateOf l in
+      let gone : _ = rw (image-state l ok) at (removed-image s (laid s (ok-valid l ok)) (keyOf x)) in
+      rw (← ex, ← ep) (record { answered = rw en; stored = el ∙ gone; written = eo })

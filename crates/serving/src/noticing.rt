@@ -1,0 +1,73 @@
+// The first notice that is owed: its frame written, and its session taken out.
+use calls::Answer;
+use machine::Machine;
+use machine::Session;
+use machine::status_of;
+use octets::octets4;
+use plan::Port;
+use replies::ReplyFields;
+use replies::put_head;
+use replies::put_reply;
+use state::first_owed;
+use state::numbered_at;
+use state::port_numbered;
+use state::wide;
+use store::remove_session;
+ghost use mathlib.Core.Path.{_≡_};
+ghost use Prim.Native.Nat.{_+_, _<_, _≤_, _^_};
+ghost use lib.ListN.{length};
+ghost use Rattle.octets.specs.Octets.{over};
+ghost use Rattle.state.specs.Image.{stateOf};
+ghost use Rattle.state.specs.Rows.{flowOfRow};
+ghost use Rattle.calls.specs.Notice.{portOf, noticeFrame, noticeServed};
+ghost use Rattle.requests.specs.Serving.{Served};
+ghost use Rattle.serving.specs.Known.{ImageKnown, NoticeKnown};
+
+// The port of the flow of a row, or 0.
+fn port_in(b: &[u8], row: usize) -> u8
+    requires { ⌜ row + 32 ≤ length (now b) ⌝ }
+    ensures { λ r. ⌜ r ≡ flowOfRow row (now (b .entry)) .port ⌝ }
+{
+    if row == 0 {
+        return 0;
+    }
+    b[row + 7]
+}
+
+// The port of a session's flow.
+fn port_of(b: &[u8], x: Session) -> Port
+    requires { ⌜ ImageKnown (now b) ⌝ }
+    ensures { λ r. ⌜ r ≡ portOf (stateOf (now (b .entry))) x ⌝ }
+{
+    let row = numbered_at(b, x.flow as u32);
+    port_numbered(b, port_in(b, row) as u32)
+}
+
+// A session's notice at the front of out; answers how many octets that is.
+fn put_notice(out: &mut [u8], port: Port, x: Session) -> usize
+    requires { ⌜ (x .level < 8) × ((x .count ≤ 4) × ((x .tag < 2 ^ 32) × (2008 ≤ length (now out)))) ⌝ }
+    ensures { λ r. ⌜ (r ≡ length (noticeFrame port x)) × (now (out .exit) ≡ over (noticeFrame port x) (now (out .entry))) ⌝ }
+{
+    let tag = octets4(x.tag as u32);
+    let start = 4 - wide(x.count);
+    let n = put_head(&mut out[..], x.source, port.address, &tag[start..]);
+    let r = ReplyFields {
+        level: x.level,
+        kind: 2,
+        code: x.notice,
+        port: port.address,
+        status: status_of(Machine::Inactive),
+    };
+    n + put_reply(&mut out[n..], r, 0, &tag)
+}
+
+pub fn take_notice(b: &mut [u8], out: &mut [u8]) -> Answer
+    requires { ⌜ NoticeKnown (now b) (now out) ⌝ }
+    ensures { λ r. ⌜ Served (noticeServed (stateOf (now (b .entry)))) r (now (b .exit)) (now (out .entry)) (now (out .exit)) ⌝ }
+{
+    let x = first_owed(b);
+    let port = port_of(b, x);
+    let n = put_notice(out, port, x);
+    remove_session(b, x.flow as u64 * 281474976710656 + x.source);
+    Answer::Noticed(port.number, x.side, n as u32)
+}

@@ -1,0 +1,5 @@
+pub mod CheckLaws
+pub mod FrameChecks
+pub mod Rewrites
+pub mod EnterLaws
+pub mod MakeLaws

@@ -1,0 +1,12 @@
+// The product: the seven calls as C entries over the lent image.
+mod entries;
+mod making;
+mod refusing;
+
+pub use entries::tmavolice_allow;
+pub use entries::tmavolice_frame;
+pub use entries::tmavolice_notice;
+pub use entries::tmavolice_prohibit;
+pub use entries::tmavolice_restart;
+pub use entries::tmavolice_tick;
+pub use making::tmavolice_make;

@@ -1,0 +1,22 @@
+// What stands behind the rows of a table.
+use octets::all_zero;
+ghost use mathlib.Core.Path.{_≡_};
+ghost use Prim.Native.Nat.{_≤_};
+ghost use lib.ListN.{length, drop};
+ghost use Rattle.octets.specs.Octets.{allZero};
+
+// Are all octets from a place on 0? By runs of 256, as the compiler makes much of a run of known length.
+pub fn rest_zero(t: &[u8], at: usize) -> bool
+    requires { ⌜ (at ≤ length (now t)) × (length (now t) ≤ 4096) ⌝ }
+    ensures { λ r. ⌜ r ≡ allZero (drop at (now (t .entry))) ⌝ }
+{
+    let mut i = at;
+    while i + 256 <= t.len() {
+        if all_zero(&t[i..i + 256]) {
+            i += 256;
+        } else {
+            return false;
+        }
+    }
+    all_zero(&t[i..])
+}

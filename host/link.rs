@@ -1,0 +1,13 @@
+//! Says where the library lies that the package's manifest names under `links`.
+
+use std::env;
+use std::path::PathBuf;
+
+fn main() {
+    let manifest = env::var("CARGO_MANIFEST_DIR").expect("cargo names the manifest's directory");
+    let library = env::var("CARGO_MANIFEST_LINKS").expect("the manifest names a library");
+    let directory = PathBuf::from(manifest).join("../../target/staticlib");
+    println!("cargo::rustc-link-search=native={}", directory.display());
+    println!("cargo::rustc-link-lib=static={library}");
+    println!("cargo::rerun-if-changed={}", directory.join(format!("lib{library}.a")).display());
+}
