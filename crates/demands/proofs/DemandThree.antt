@@ -1,6 +1,6 @@
 -- Demand 3: requests rewritten as a later protocol version would send them change nothing but the copies of unknown TLVs, their length
 -- and their flag.
-use mathlib.Core.Path.{_≡_}
+use mathlib.Core.Path.{_≡_, refl}
 use mathlib.Core.List.{List, [], _∷_}
 use Prim.Native.Nat.{ℕ, _+_, _*_, _≤_, _^_}
 use lib.ListN.{length}
@@ -10,7 +10,7 @@ use Rattle.plan.specs.PlanText.{planned, planIn}
 use Rattle.calls.specs.Calls.{Call, make, frame}
 use Rattle.demands.specs.World.{World, fresh}
 use Rattle.demands.specs.Calls.{call}
-use Rattle.demands.specs.Runs.{Seen, seen, worldRun, EntriesRun, AllTyped}
+use Rattle.demands.specs.Runs.{Seen, seen, worldRun, worldAfter, EntriesRun, AllTyped}
 use Rattle.demands.specs.Later.{Later}
 use Rattle.demands.specs.LaterRuns.{Asks, Became, left-alone, rewritten, Rewritten, Matches, equal, AllMatch}
 use Rattle.demands.specs.LaterRuns.{ended as run-ended, same as run-same, later as run-later, next}
@@ -48,6 +48,15 @@ module _ (keys : ℕ) where
       (worldRun keys (call keys w (frame port side g out) .world) ds)
       = rw (a .world-same) (runs-match more) in
       next (a .matches) rest
+
+  -- and the world after it is the same
+  pub worlds-same : {w : World} {cs ds : List Call} {fs : List Became} → Rewritten keys w cs ds fs
+      → worldAfter keys w ds ≡ worldAfter keys w cs
+  unfolding worldAfter
+  worlds-same run-ended = refl
+  worlds-same (run-same more) = worlds-same more
+  worlds-same (run-later {w = w} {port = port} {side = side} {set = set} {tags = tags} {f = f} {g = g} {out = out} asks r len more) =
+      rw (call-later w port side set tags f g out asks r len .world-same) (worlds-same more)
 
   -- and of the C entries, after a text that reads as a plan
   pub demand-three : 33 * 2 ^ 48 ≤ keys
