@@ -3,12 +3,12 @@
 .PHONY: run
 
 HEADER = ../include/tmavolice.h
-STRICT = -O2 -Wall -Wextra -Werror -pedantic -I../include
+STRICT = -O2 -Wall -Wextra -Werror -pedantic -I../include $(CROSS)
 
 programs: $(OUT)/run $(OUT)/example $(OUT)/header_c $(OUT)/header_cpp
 
 run: $(OUT)/run
-	@$(OUT)/run
+	@$(START) $(OUT)/run
 
 $(OUT)/run: $(wildcard run/*.c run/*.h)
 

@@ -18,7 +18,7 @@ check() { # COMMAND..
 
 # Does a program write what its file says, and end well?
 writes() { # PROGRAM FILE
-    "$1" >"$out"
+    host/start.sh "$1" >"$out"
     ended=$?
     diff "$2" "$out" && [ "$ended" -eq 0 ]
 }
@@ -32,8 +32,8 @@ add $(sed -n '$s/^\([0-9]*\) passed, \([0-9]*\) failed$/\1 \2/p' "$out")
 
 check make -s -C host library programs
 check make -s -C host check
-check target/host/header_c
-check target/host/header_cpp
+check host/start.sh target/host/header_c
+check host/start.sh target/host/header_cpp
 check writes target/host/run host/run/stdout
 check writes target/host/example host/example/stdout
 check host/quoted.sh README.md text host/run/stdout

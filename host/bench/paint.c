@@ -5,6 +5,9 @@
 
 enum { SIZE = 32768, PAINT = 0xa5, RETURN_ADDRESS = 8 };
 
+/* What is used of it lies where the C library for x86-64 has it, whose octets it has room for: also of another machine's header. */
+_Static_assert(offsetof(ucontext_t, uc_link) == 8 && offsetof(ucontext_t, uc_stack) == 16 && sizeof(ucontext_t) >= 968, "ucontext_t");
+
 static uint8_t stack[SIZE] __attribute__((aligned(64)));
 static ucontext_t here, there;
 

@@ -1,8 +1,10 @@
 #include "unit.h"
 
 const struct unit *const units_in_c[] = {
+#ifdef WITH_gcc
     &unit_gcc,
-#ifdef WITH_CLANG
+#endif
+#ifdef WITH_clang
     &unit_clang,
 #endif
     NULL,

@@ -1,0 +1,29 @@
+# The programs on a machine that is not x86-64. The library is for x86-64 there too: so clang compiles for it, with the kit's
+# linker, start files and C library, and start.sh runs the programs on the kit's emulator. The C headers are the machine's own;
+# what the programs use of them is the same on x86-64.
+MACHINE := $(shell uname -m)
+TOOLS := $(shell dirname $$(dirname $$(rt doc)))/on/$(MACHINE)/toolchain
+
+ifeq ($(CLANG),)
+$(error clang is needed to compile for x86-64 on this machine ($(MACHINE)), and there is none)
+endif
+ifneq ($(filter bench,$(MAKECMDGOALS)),)
+$(error the library runs on an emulator here, and a time on an emulator says nothing)
+endif
+
+CC = clang
+CXX = clang++
+COMPILERS = clang
+START = ./start.sh
+CROSS = --target=x86_64-linux-gnu -isystem /usr/include/$(MACHINE)-linux-gnu -fPIE -pie --ld-path=$(TOOLS)/bin/ld.lld \
+	-B$(TOOLS)/lib -nodefaultlibs $(TOOLS)/lib/libc.so.6 $(TOOLS)/lib/libc_nonshared.a -Qunused-arguments
+
+# Else stack that a caller by clang gives back before it jumps to a call would be taken off that call's.
+$(OUT)/stack: CFLAGS += -fno-optimize-sibling-calls
+
+# The tests in Rust are for the machine itself, and ask this program for each call.
+programs soak: $(OUT)/served
+
+$(OUT)/served: served/served.c ../include/tmavolice.h $(LIB) $(PROBE)
+	mkdir -p $(OUT)
+	$(CC) $(CFLAGS) $(LDFLAGS) -o $@ $(filter %.c %.a,$^)
