@@ -11,7 +11,7 @@ use Rattle.replies.specs.Reply.{activeFlags, flagsBy, flags, header, timerTlv, 
 use Rattle.replies.specs.Reply.{replyFrame, tagOf, looped}
 use Rattle.codec.specs.Request.{octet, levelOf, versionOf, opcodeOf, offsetOf, typeOf, portMacOf, tlvsOf, isRequest, class2}
 use Rattle.codec.specs.Request.{addressed, wrongMac, wrongOffset, untimed, malformed, byType, requestOf, copiesOf, copied, readOf}
-use Rattle.codec.specs.Tlv.{ended, cut, followed, walk, parse, subtype, isTimer, badTlv, timers, badList, tlvOctets, unknown}
+use Rattle.tlvs.specs.Tlv.{ended, cut, followed, walk, parse, subtype, isTimer, badTlv, timers, badList, tlvOctets, unknown}
 use Rattle.machine.specs.Machine.{activity, conditionOf, isOpen, key, keyOf, lasting, owed, goodSeconds, answered, admitted}
 use Rattle.machine.specs.Machine.{sameMp, refreshed, restarted, closed, decided, after, passes, turned, fateOf, dataEvent}
 use Rattle.machine.specs.Machine.{closedBy, withdrawn, allowedAfter, secondsLeft, statusOf}

@@ -17,7 +17,7 @@ use Rattle.codec.specs.declared.Place.the-variants.{NoSet, InSet}
 use Rattle.codec.specs.declared.Request.{Request}
 use Rattle.codec.specs.declared.Request.the-variants.{Malformed, Reserved, Activate, Deactivate, State as StateRequest}
 use Rattle.codec.specs.FrameSet.{placeOf, destination, source, pduOf}
-use Rattle.codec.specs.Tlv.{timers}
+use Rattle.tlvs.specs.Tlv.{timers}
 use Rattle.codec.specs.Request.{malformed, byType, requestOf, copiesOf, levelOf, typeOf, tlvsOf}
 use Rattle.codec.specs.declared.Status.{Status}
 use Rattle.replies.specs.Reply.{tagOf, carriesTimer, timerPart, replyPdu}

@@ -7,7 +7,7 @@ use lib.ListN.{length, drop}
 use lib.Seq.{getD-drop}
 use Rattle.octets.specs.Octets.{number}
 use Rattle.octets.proofs.Same.{both-true}
-use Rattle.octets.proofs.Round.{number-fits}
+use Rattle.octets.proofs.Round.{Octets, number-fits}
 use Rattle.codec.specs.declared.Addressed.{Addressed}
 use Rattle.codec.specs.declared.Addressed.the-variants.{Elsewhere, Unicast, Multicast}
 use Rattle.codec.specs.declared.FrameSet.{FrameSet}
@@ -15,7 +15,7 @@ use Rattle.codec.specs.declared.Place.{Place}
 use Rattle.codec.specs.declared.Place.the-variants.{NoSet, InSet}
 use Rattle.codec.specs.FrameSet.{placeOf, destination, source, setOf}
 use Rattle.codec.specs.Request.{isRequest, addressed}
-use Rattle.codec.proofs.Places.{Octets, tag-fits}
+use Rattle.codec.proofs.Places.{tag-fits}
 use Rattle.machine.specs.declared.Fate.{Fate}
 use Rattle.machine.specs.declared.Fate.the-variants.{Forward, Drop, Loop}
 use Rattle.plan.specs.declared.Port.{Port}

@@ -6,13 +6,14 @@ use Prim.Native.Nat.{ℕ, _+_, _-_, _*_, _/_, _%_, _≤_}
 use native.Mathlib.Omega.{arith}
 use lib.ListN.{length, take, drop, length-drop, take-append-drop}
 use lib.Seq.{length-take-le, getD-drop}
+use Rattle.octets.proofs.Round.{Octets}
+use Rattle.tlvs.proofs.Short.{good-list, parse-short}
+use Rattle.tlvs.proofs.Walk.{drop-to}
+use Rattle.tlvs.proofs.Written.{Listed, parse-listed}
 use Rattle.codec.specs.declared.Addressed.{Addressed}
 use Rattle.codec.specs.Request.{octet, levelOf, versionOf, opcodeOf, offsetOf, tlvsOf, malformed}
 use Rattle.codec.specs.Later.{Parts, Laid, pduIn}
-use Rattle.codec.proofs.Short.{Formed, formed, good-list, offset-high, parse-short}
-use Rattle.codec.proofs.Walk.{drop-to}
-use Rattle.codec.proofs.Places.{Octets}
-use Rattle.codec.proofs.LaterList.{Listed, parse-listed}
+use Rattle.codec.proofs.Short.{Formed, formed, offset-high}
 use Rattle.codec.proofs.LaterRead.{list, parted}
 
 -- the four octets ahead of the message type, by what they say

@@ -1,6 +1,5 @@
 -- Requests rewritten as a later version would send them, by computation.
 use mathlib.Core.Path.{_≡_, refl}
-use mathlib.Core.Bool.{Bool, true, false}
 use mathlib.Core.List.{List, [], _∷_, map}
 use Prim.Native.Nat.{ℕ, _+_, _%_, _<_, _≤_}
 use Prim.Native.String.{String}
@@ -8,8 +7,9 @@ use native.Mathlib.Omega.{arith}
 use lib.ListN.{length}
 use Rattle.octets.specs.Octets.{octets}
 use Rattle.octets.specs.Text.{hex, hexed, text, digit}
-use Rattle.codec.specs.Tlv.{Tlv, subtype, tlvOctets}
-use Rattle.codec.specs.Later.{Parts, Whole, AllWhole, Laid, LaterParts, Added, ended, kept, new, pduIn, tlvList, isUnknown}
+use Rattle.tlvs.specs.Tlv.{Tlv, subtype, tlvOctets}
+use Rattle.tlvs.specs.Added.{Whole, AllWhole, Added, ended, kept, new, tlvList, isUnknown}
+use Rattle.codec.specs.Later.{Parts, Laid, LaterParts, pduIn}
 
 -- octets as they are written
 shown : String → List ℕ
@@ -18,24 +18,6 @@ shown written = hex written
 
 tlv : ℕ → String → Tlv
 tlv kind value = record { kind = kind; value = shown value }
-
--- types and values, and whether such a TLV is unknown to us
-abbrev values : List (ℕ × String × Bool)
-values =
-    (9, "FF", true)
-    ∷ (9, "", true)
-    ∷ (31, "41", true)
-    -- type 37 with subtype 1, also of a wrong length, with another subtype, and with none
-    ∷ (37, "01 00 00 00 3C", false)
-    ∷ (37, "01", false)
-    ∷ (37, "02 00 00 00 3C", true)
-    ∷ (37, "00", true)
-    ∷ (37, "", false)
-    ∷ []
-
-timer-types-are-known : map (λ row. (row .0, row .1, isUnknown (tlv (row .0) (row .1)))) values ≡ values
-unfolding isUnknown subtype tlv shown
-timer-types-are-known = refl
 
 -- an Activate of 60 seconds at level 4, with these TLVs
 activate : ℕ → ℕ → ℕ → List ℕ → List Tlv → Parts

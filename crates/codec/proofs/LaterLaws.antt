@@ -8,14 +8,15 @@ use lib.ListN.{length, drop, getD}
 use borrow.Author.Tests.{le-leb, le-ltb, ne-eqb}
 use Rattle.octets.specs.Octets.{number}
 use Rattle.octets.specs.Lists.{some}
+use Rattle.tlvs.specs.Tlv.{badTlv, timers, badList}
+use Rattle.tlvs.specs.Added.{Added, unknowns}
+use Rattle.tlvs.proofs.AddedLaws.{added-timers, added-bad, added-unknowns}
 use Rattle.codec.specs.declared.Addressed.{Addressed}
 use Rattle.codec.specs.declared.Addressed.the-variants.{Elsewhere, Unicast, Multicast}
-use Rattle.codec.specs.Tlv.{badTlv, timers, badList}
 use Rattle.codec.specs.Request.{levelOf, typeOf, portMacOf, tlvsOf, addressed}
 use Rattle.codec.specs.Request.{wrongMac, wrongOffset, untimed, malformed, requestOf}
-use Rattle.codec.specs.Later.{Parts, Laid, LaterParts, Added, pduIn, unknowns}
+use Rattle.codec.specs.Later.{Parts, Laid, LaterParts, pduIn}
 use Rattle.codec.proofs.Short.{Formed, formed}
-use Rattle.codec.proofs.LaterTlvs.{added-timers, added-bad, added-unknowns}
 use Rattle.codec.proofs.LaterRead.{long, level-is, version-is, offset-is, type-is, mac-is, parsed}
 
 module _ {r q : Parts} (l : LaterParts r q) where

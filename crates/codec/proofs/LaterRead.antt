@@ -9,13 +9,15 @@ use lib.Seq.{drop-append-le, drop-at}
 use Rattle.octets.specs.Octets.{number}
 use Rattle.octets.specs.Lists.{some}
 use Rattle.octets.proofs.Laws.{number-on}
+use Rattle.tlvs.specs.Tlv.{badTlv}
+use Rattle.tlvs.specs.Added.{tlvList, unknowns}
+use Rattle.tlvs.proofs.Short.{good-list}
+use Rattle.tlvs.proofs.Written.{parse-list}
+use Rattle.tlvs.proofs.AddedLaws.{unknown-list}
 use Rattle.codec.specs.declared.Addressed.{Addressed}
-use Rattle.codec.specs.Tlv.{badTlv}
 use Rattle.codec.specs.Request.{octet, levelOf, versionOf, opcodeOf, offsetOf, typeOf, portMacOf, tlvsOf, malformed, copiesOf}
-use Rattle.codec.specs.Later.{Parts, Laid, pduIn, tlvList, unknowns}
-use Rattle.codec.proofs.Short.{good-list, formed}
-use Rattle.codec.proofs.LaterList.{parse-list}
-use Rattle.codec.proofs.LaterTlvs.{unknown-list}
+use Rattle.codec.specs.Later.{Parts, Laid, pduIn}
+use Rattle.codec.proofs.Short.{formed}
 
 -- the header; the TLV list with its End and what stands behind it
 abbrev pub head : Parts → List ℕ

@@ -5,12 +5,13 @@ use mathlib.Core.List.{List}
 use Prim.Native.Nat.{ℕ, _+_, _*_, _/_, _≤_, _<_, _^_}
 use native.Mathlib.Omega.{arith}
 use lib.Dec.{eqb, ltb}
-use lib.ListN.{length, drop, getD}
+use lib.ListN.{length, drop}
 use lib.Seq.{getD-drop, drop-drop}
 use borrow.Author.Tests.{eqb-true, eq-eqb, ltb-false}
 use Rattle.octets.specs.Octets.{number}
 use Rattle.octets.specs.Lists.{within}
 use Rattle.octets.proofs.Laws.{number-parts}
+use Rattle.octets.proofs.Round.{Octets}
 use Rattle.codec.specs.declared.FrameSet.{FrameSet}
 use Rattle.codec.specs.declared.Place.the-variants.{NoSet, InSet}
 use Rattle.codec.specs.FrameSet.{uni, enni, untagged, c-tagged, s-tagged, c-tag, s-tag}
@@ -61,10 +62,6 @@ module _ {set : FrameSet} {tags : ℕ} where
       go true s ec es h = own c-tagged type tag refl (eqb-true type c-tag (both (eqb portKind uni) (eqb type c-tag) ec .1)) h
       go false true ec es h = own s-tagged type tag refl (eqb-true type s-tag (both (eqb portKind enni) (eqb type s-tag) es .1)) h
       go false false ec es h = nowhere h
-
--- a list of octets
-abbrev pub Octets : List ℕ → Type 0
-Octets l = (i : ℕ) → getD l i 0 < 256
 
 -- what a frame in a set has
 record Placed (f : List ℕ) (set : FrameSet) (tags : ℕ) : Type 0 where

@@ -6,12 +6,12 @@ use Prim.Native.String.{String}
 use Rattle.octets.specs.Octets.{number, octets}
 use Rattle.octets.specs.Lists.{some}
 use Rattle.octets.specs.Text.{hex, hexed, text, digit}
+use Rattle.tlvs.specs.Tlv.{Parsed, ended, cut, followed, walk, parse, subtype, isTimer, badTlv, timers, badList}
+use Rattle.tlvs.specs.Tlv.{tlvOctets, unknown}
 use Rattle.codec.specs.declared.Addressed.{Addressed}
 use Rattle.codec.specs.declared.Addressed.the-variants.{Elsewhere, Unicast, Multicast}
 use Rattle.codec.specs.declared.Request.{Request}
 use Rattle.codec.specs.declared.Request.the-variants.{Malformed, Reserved, Activate, Deactivate, State}
-use Rattle.codec.specs.Tlv.{Parsed, ended, cut, followed, walk, parse, subtype, isTimer, badTlv, timers, badList}
-use Rattle.codec.specs.Tlv.{tlvOctets, unknown}
 use Rattle.codec.specs.Request.{octet, levelOf, versionOf, offsetOf, typeOf, portMacOf, tlvsOf, class2, addressed}
 use Rattle.codec.specs.Request.{wrongMac, wrongOffset, untimed, malformed, byType, requestOf, copiesOf}
 

@@ -10,18 +10,18 @@ use lib.Seq.{drop-append-le}
 use borrow.Author.Tests.{le-leb, ne-eqb}
 use Rattle.octets.proofs.Cases.{by-eq}
 use Rattle.octets.proofs.Laws.{number-on}
+use Rattle.tlvs.specs.declared.Summary.{Summary}
+use Rattle.tlvs.specs.Tlv.{parse, timers, badList}
+use Rattle.tlvs.specs.Walk.{summaryOf}
+use Rattle.tlvs.proofs.Short.{parse-short}
+use Rattle.tlvs.proofs.After.{parse-on, summary-bad, summary-unknown, summary-timer}
 use Rattle.codec.specs.declared.Addressed.{Addressed}
 use Rattle.codec.specs.declared.Addressed.the-variants.{Elsewhere, Unicast, Multicast}
 use Rattle.codec.specs.declared.Request.{Request}
 use Rattle.codec.specs.declared.Request.the-variants.{Malformed}
 use Rattle.codec.specs.declared.Read.{Read}
-use Rattle.codec.specs.declared.tlv.Summary.{Summary}
-use Rattle.codec.specs.Tlv.{parse, timers, badList}
-use Rattle.codec.specs.Walk.{summaryOf}
 use Rattle.codec.specs.Request.{octet, offsetOf, typeOf, tlvsOf, wrongMac, wrongOffset, untimed, malformed, byType, requestOf, copied}
 use Rattle.codec.specs.Request.{versionOf, portMacOf, copiesOf, readOf}
-use Rattle.codec.proofs.After.{parse-on, summary-bad, summary-unknown, summary-timer}
-use Rattle.codec.proofs.Short.{parse-short}
 
 abbrev pub badRead : Read
 badRead = record { request = Malformed; copies = 0 }

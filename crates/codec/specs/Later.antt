@@ -1,11 +1,10 @@
 -- A request's PDU by its parts, and rewritten as a later version of the protocol would send it.
 use mathlib.Core.Path.{_≡_}
-use mathlib.Core.Bool.{Bool, true, cond, _&&_, _||_, not}
-use mathlib.Core.List.{List, [], _∷_, _++_}
-use Prim.Native.Nat.{ℕ, _+_, _*_, _%_, _<_, _≤_, _^_}
-use lib.Dec.{eqb}
+use mathlib.Core.List.{List, _∷_, _++_}
+use Prim.Native.Nat.{ℕ, _+_, _*_, _%_, _<_, _≤_}
 use lib.ListN.{length}
-use Rattle.codec.specs.Tlv.{Tlv, subtype, tlvOctets}
+use Rattle.tlvs.specs.Tlv.{Tlv}
+use Rattle.tlvs.specs.Added.{tlvList, AllWhole, Added}
 
 -- ---- a request by its parts
 
@@ -21,24 +20,10 @@ pub record Parts : Type 0 where
   pub tlvs : List Tlv
   pub behind : List ℕ
 
-unfoldable pub tlvList : List Tlv → List ℕ
-tlvList [] = []
-tlvList (t ∷ ts) = tlvOctets t ++ tlvList ts
-
 unfoldable pub pduIn : Parts → List ℕ
 pduIn r =
     ((r .level * 32 + r .version) ∷ 57 ∷ r .flags ∷ r .offset ∷ r .fixed)
     ++ r .ahead ++ tlvList (r .tlvs) ++ (0 ∷ r .behind)
-
--- a TLV that has a type other than End, and a length of two octets
-pub record Whole (t : Tlv) : Type 0 where
-  pub kind-some : 1 ≤ t .kind
-  pub kind-small : t .kind < 256
-  pub short : length (t .value) < 2 ^ 16
-
-abbrev pub AllWhole : List Tlv → Type 0
-AllWhole [] = Unit {0}
-AllWhole (t ∷ ts) = Whole t × AllWhole ts
 
 -- The first TLV stands where the offset says; the header has eight octets behind it.
 pub record Laid (r : Parts) : Type 0 where
@@ -51,21 +36,6 @@ pub record Laid (r : Parts) : Type 0 where
   pub whole : AllWhole (r .tlvs)
 
 -- ---- rewritten
-
--- TLVs unknown to us: types other than 0 and 37, and type 37 with a subtype other than 1
-unfoldable pub isUnknown : Tlv → Bool
-isUnknown t = not (eqb (t .kind) 37) || (not (eqb (length (t .value)) 0) && not (eqb (subtype t) 1))
-
--- the unknown TLVs, in order
-unfoldable pub unknowns : List Tlv → List Tlv
-unknowns [] = []
-unknowns (t ∷ ts) = cond (isUnknown t) (t ∷ unknowns ts) (unknowns ts)
-
--- any number of unknown TLVs placed ahead of any TLVs of the list, End included
-pub data Added : List Tlv → List Tlv → Type 0 where
-  ended : Added [] []
-  kept : {t : Tlv} {ts us : List Tlv} → Added ts us → Added (t ∷ ts) (t ∷ us)
-  new : {t : Tlv} {ts us : List Tlv} → isUnknown t ≡ true → Added ts us → Added ts (t ∷ us)
 
 -- Version 1 to 31; octets added straight ahead of the first TLV with the offset raised to match; reserved flag bits, all but the
 -- lowest three, set at will; unknown TLVs added; the rest octet by octet the same.

@@ -10,8 +10,8 @@ use Rattle.codec.specs.declared.Addressed.the-variants.{Elsewhere, Unica
 use Rattle.codec.specs.declared.Request.{Request}
 use Rattle.codec.specs.declared.Request.the-variants.{Malformed, Reserved, Activate, Deactivate, State}
 use Rattle.codec.specs.declared.Read.{Read}
+use Rattle.tlvs.specs.Tlv.{Parsed, parse, timers, badList, unknown}
 use Rattle.codec.specs.FrameSet.{soam, pduOf}
-use Rattle.codec.specs.Tlv.{Parsed, parse, timers, badList, unknown}
 
 -- PDU octets, from 1
 unfoldable pub octet : ℕ → List ℕ → ℕ

@@ -1,8 +1,7 @@
-// The message layer, read: a frame's place, the PDU of a request, TLV lists.
+// The message layer, read: a frame's place, the PDU of a request.
 mod frame;
 mod reading;
 mod requests;
-mod tlv;
 
 pub use frame::destination_of;
 pub use frame::is_group;
@@ -15,11 +14,6 @@ pub use requests::addressed_to;
 pub use requests::is_request;
 pub use requests::level_of;
 pub use requests::type_of;
-pub use tlv::Step;
-pub use tlv::Summary;
-pub use tlv::Timer;
-pub use tlv::copy_unknown;
-pub use tlv::summary_of;
 
 // A frame set of a port. Its kind is 1 untagged, 2 C-tagged, 3 S-tagged; its VID is 0 where it is untagged.
 pub struct FrameSet {

@@ -14,7 +14,7 @@ use crate::requests::octet_at;
 use crate::requests::type_of;
 use crate::requests::wrong_mac;
 use crate::requests::wrong_offset;
-use crate::tlv::summary_of;
+use tlvs::summary_of;
 
 // Where the first TLV stands.
 pub fn first_tlv(pdu: &[u8]) -> usize

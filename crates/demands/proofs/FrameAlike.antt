@@ -8,14 +8,14 @@ use lib.ListN.{length, drop, length-drop}
 use lib.Seq.{getD-drop}
 use borrow.Author.Tests.{not-false}
 use Rattle.octets.specs.Lists.{within}
-use Rattle.octets.proofs.Round.{octets-number}
+use Rattle.octets.proofs.Round.{Octets, octets-number}
 use Rattle.codec.specs.declared.FrameSet.{FrameSet}
 use Rattle.codec.specs.declared.Place.{Place}
 use Rattle.codec.specs.declared.Place.the-variants.{NoSet, InSet}
 use Rattle.codec.specs.declared.Addressed.{Addressed}
 use Rattle.codec.specs.declared.Addressed.the-variants.{Elsewhere, Unicast, Multicast}
 use Rattle.codec.specs.FrameSet.{placeOf}
-use Rattle.codec.proofs.Places.{Octets, tag-whole}
+use Rattle.codec.proofs.Places.{tag-whole}
 use Rattle.replies.specs.Reply.{tagOf}
 use Rattle.plan.specs.declared.Port.{Port}
 use Rattle.plan.specs.declared.Flow.{Flow}

@@ -11,7 +11,7 @@ use Rattle.codec.specs.declared.Request.{Request}
 use Rattle.codec.specs.declared.Request.the-variants.{Malformed, Reserved, Activate, Deactivate, State as StateRequest}
 use Rattle.codec.specs.FrameSet.{destination, source}
 use Rattle.codec.specs.Request.{levelOf, typeOf, requestOf, copiesOf}
-use Rattle.codec.specs.Tlv.{Tlv}
+use Rattle.tlvs.specs.Tlv.{Tlv}
 use Rattle.replies.specs.Reply.{replyFrame, replyPdu, tagOf}
 use Rattle.plan.specs.Plan.{portNumbered}
 use Rattle.calls.specs.declared.Answer.{Answer}

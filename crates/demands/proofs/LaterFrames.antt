@@ -16,8 +16,9 @@ use Rattle.codec.specs.declared.Addressed.the-variants.{Elsewhere, Unicast, Mul
 use Rattle.codec.specs.declared.Request.the-variants.{Malformed, Reserved, Activate, Deactivate, State as StateRequest}
 use Rattle.codec.specs.FrameSet.{destination, source, placeOf}
 use Rattle.codec.specs.Request.{levelOf, typeOf, isRequest, malformed, requestOf, byType, copiesOf}
-use Rattle.codec.specs.Tlv.{Tlv}
-use Rattle.codec.specs.Later.{Parts, pduIn, Laid, LaterParts, tlvList, unknowns}
+use Rattle.tlvs.specs.Tlv.{Tlv}
+use Rattle.tlvs.specs.Added.{tlvList, unknowns}
+use Rattle.codec.specs.Later.{Parts, pduIn, Laid, LaterParts}
 use Rattle.codec.proofs.LaterRead.{opcode-is, long, copies-are}
 use Rattle.codec.proofs.LaterLaws.{later-level, later-type, later-addressed, later-formed, later-request}
 use Rattle.replies.specs.Reply.{tagOf}

@@ -11,6 +11,7 @@ use lib.ListN.{length, getD, take, drop, length-drop, List·getD-append}
 use lib.Seq.{getD-drop, drop-drop, drop-append-le}
 use Rattle.octets.specs.Octets.{lowNumber, lowOctets, allZero}
 use Rattle.octets.proofs.Laws.{drop-more}
+use Rattle.octets.proofs.Round.{Octets}
 use Rattle.octets.proofs.Cases.{by-eq}
 
 pub low-octets-length : (n x : ℕ) → length (lowOctets n x) ≡ n
@@ -53,7 +54,7 @@ low-octets (suc n) x t h =
     let q : x / 256 < 256 ^ n = omega arith in
     rw (low-octets n (x / 256) t q) (omega arith)
 
-pub low-fits : (n : ℕ) (l : List ℕ) → ((i : ℕ) → getD l i 0 < 256) → lowNumber n l < 256 ^ n
+pub low-fits : (n : ℕ) (l : List ℕ) → Octets l → lowNumber n l < 256 ^ n
 unfolding lowNumber
 low-fits zero l o = omega arith
 low-fits (suc n) l o =
@@ -61,7 +62,7 @@ low-fits (suc n) l o =
     let x : getD l 0 0 < 256 = o 0 in
     rw pow-suc (omega arith)
 
-pub octets-low : (n : ℕ) (l : List ℕ) → ((i : ℕ) → getD l i 0 < 256) → n ≤ length l → lowOctets n (lowNumber n l) ≡ take n l
+pub octets-low : (n : ℕ) (l : List ℕ) → Octets l → n ≤ length l → lowOctets n (lowNumber n l) ≡ take n l
 unfolding lowNumber lowOctets
 octets-low zero l o h = refl
 octets-low (suc n) [] o h = absurd (omega arith)

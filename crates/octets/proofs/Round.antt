@@ -21,7 +21,11 @@ octets-keep (suc n) x t = rw (octets-keep n x t, pow-succ') (sym (mod-mul x {m =
 pub number-octets : (n x : ℕ) (t : List ℕ) → x < 256 ^ n → number n (octets n x ++ t) ≡ x
 number-octets n x t h = octets-keep n x t ∙ mod-eq-of-lt h
 
-pub number-fits : (n : ℕ) (l : List ℕ) → ((i : ℕ) → getD l i 0 < 256) → number n l < 256 ^ n
+-- a list of octets
+abbrev pub Octets : List ℕ → Type 0
+Octets l = (i : ℕ) → getD l i 0 < 256
+
+pub number-fits : (n : ℕ) (l : List ℕ) → Octets l → number n l < 256 ^ n
 unfolding number
 number-fits zero l o = omega arith
 number-fits (suc n) l o =
@@ -29,17 +33,17 @@ number-fits (suc n) l o =
     rw pow-succ' (digits-lt (o 0) f)
 
 -- whatever stands above the n octets does not show in them
-octets-under : (n k : ℕ) (l : List ℕ) → ((i : ℕ) → getD l i 0 < 256) → n ≤ length l → octets n (k * 256 ^ n + number n l) ≡ take n l
+octets-under : (n k : ℕ) (l : List ℕ) → Octets l → n ≤ length l → octets n (k * 256 ^ n + number n l) ≡ take n l
 unfolding number octets
 octets-under zero k l o h = refl
 octets-under (suc n) k [] o h = absurd (omega arith)
 octets-under (suc n) k (x ∷ l) o h =
     let p : ℕ = 256 ^ n in
     let m : ℕ = number n l in
-    let t : (i : ℕ) → getD l i 0 < 256 = λ i. o (suc i) in
+    let t : Octets l = λ i. o (suc i) in
     let e : k * 256 ^ suc n + (x * p + m) ≡ (k * 256 + x) * p + m = rw (pow-succ', add-mul, mul-assoc, add-assoc) in
     let top : ((k * 256 + x) * p + m) / p % 256 ≡ x = rw (digits-div (k * 256 + x) (number-fits n l t)) (digits-mod k (o 0)) in
     rw (e, top, octets-under n (k * 256 + x) l t (omega arith))
 
-pub octets-number : (n : ℕ) (l : List ℕ) → ((i : ℕ) → getD l i 0 < 256) → n ≤ length l → octets n (number n l) ≡ take n l
+pub octets-number : (n : ℕ) (l : List ℕ) → Octets l → n ≤ length l → octets n (number n l) ≡ take n l
 octets-number n l o h = rw (zero-mul, zero-add) at (octets-under n 0 l o h)

@@ -12,7 +12,7 @@ use Rattle.octets.specs.Octets.{octets, over}
 use Rattle.octets.proofs.Over.{then-over}
 use Rattle.replies.proofs.Lengths.{pdu-length}
 use Rattle.replies.specs.declared.ReplyFields.{ReplyFields}
-use Rattle.codec.specs.Tlv.{parse, unknown}
+use Rattle.tlvs.specs.Tlv.{parse, unknown}
 use Rattle.codec.specs.Request.{offsetOf, tlvsOf, copiesOf}
 use Rattle.codec.specs.Request.{copied}
 use Rattle.replies.specs.Reply.{flags, flagsBy, header, timerTlv, carriesTimer, timerPart, replyOf}

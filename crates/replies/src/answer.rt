@@ -11,9 +11,9 @@ use crate::reply::flags_of;
 use crate::reply::put_head;
 use crate::reply::put_header;
 use crate::reply::put_timer;
-use codec::copy_unknown;
 use codec::first_tlv;
 use codec::source_of;
+use tlvs::copy_unknown;
 
 // The timer TLV where it is carried, at the front of out; answers how many octets that is.
 fn put_timer_part(out: &mut [u8], kind: u8, code: u8, seconds: u32) -> usize

@@ -11,7 +11,7 @@ use Rattle.codec.specs.declared.Addressed.{Addressed}
 use Rattle.codec.specs.declared.Read.{Read}
 use Rattle.codec.specs.declared.Request.the-variants.{Malformed, Reserved, Activate, Deactivate, State as StateRequest}
 use Rattle.codec.specs.FrameSet.{destination, pduOf}
-use Rattle.codec.specs.Tlv.{timers}
+use Rattle.tlvs.specs.Tlv.{timers}
 use Rattle.codec.specs.Request.{typeOf, tlvsOf, malformed, byType, requestOf, copiesOf, readOf, copied}
 use Rattle.machine.specs.declared.Decided.{Decided}
 use Rattle.machine.specs.Table.{eventAt}

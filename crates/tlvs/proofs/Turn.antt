@@ -1,0 +1,59 @@
+-- A turn and the ends of the loop that sums a list up.
+use mathlib.Core.Path.{_≡_, refl}
+use mathlib.Core.Bool.{Bool, true, false, cond}
+use mathlib.Core.List.{List}
+use Prim.Native.Nat.{ℕ, _+_, _≤_}
+use native.Mathlib.Omega.{arith}
+use lib.Dec.{eqb}
+use lib.ListN.{length, take, drop, length-take}
+use Rattle.tlvs.specs.Tlv.{Tlv, Parsed, ended, cut, followed, parse}
+use Rattle.tlvs.specs.Walk.{stepAt, timerOf, tlvOf, badSummary, withUnknown, byTimer, count}
+use Rattle.tlvs.specs.declared.Step.the-variants.{Tlv as Found, End, Bad}
+use Rattle.tlvs.specs.declared.Timer.{Timer}
+use Rattle.tlvs.specs.declared.Timer.the-variants.{Broken, Other, Seconds}
+use Rattle.tlvs.specs.declared.Summary.{Summary}
+use Rattle.tlvs.proofs.Walk.{parse-at}
+use Rattle.tlvs.proofs.Sum.{sumUp}
+
+sum-followed : (s : Summary) (t : Tlv) (p : Parsed) → sumUp s (followed t p) ≡ sumUp (count s (t .kind) (t .value)) p
+unfolding followed
+sum-followed s t p = refl
+
+module _ (l : List ℕ) (at : ℕ) (s : Summary) where
+  pub turn : {kind start len next m : ℕ} {r : Summary} → stepAt l at ≡ Found kind start len next → m ≡ len
+      → r ≡ count s kind (take m (drop start l)) → sumUp r (parse (drop next l)) ≡ sumUp s (parse (drop at l))
+  turn {kind} {start} {len} e em er =
+      rw (parse-at l at, e, sum-followed s (tlvOf kind (take len (drop start l))), er, em)
+
+  pub ends : stepAt l at ≡ End → s ≡ sumUp s (parse (drop at l))
+  unfolding ended
+  ends e = rw (parse-at l at, e)
+
+  pub breaks : stepAt l at ≡ Bad → badSummary ≡ sumUp s (parse (drop at l))
+  unfolding cut
+  breaks e = rw (parse-at l at, e)
+
+-- one TLV adds at most its own octets
+count-unknown : (s : Summary) (kind : ℕ) (v : List ℕ) → count s kind v .unknown ≤ s .unknown + 3 + length v
+unfolding count
+count-unknown s kind v = go (s .bad) (eqb kind 37) (timerOf v)
+  where
+    timer : (n : ℕ) (b : Bool)
+        → cond b badSummary (record { bad = s .bad; timed = true; seconds = n; unknown = s .unknown }) .unknown
+        ≤ s .unknown + 3 + length v
+    timer n true = omega arith
+    timer n false = omega arith
+
+    go : (a b : Bool) (t : Timer)
+        → cond a s (cond b (byTimer s v t) (withUnknown s (length v))) .unknown ≤ s .unknown + 3 + length v
+    go true b t = omega arith
+    go false false t = omega arith
+    go false true Broken = omega arith
+    go false true Other = omega arith
+    go false true (Seconds n) = timer n (s .timed)
+
+-- the same of a part of the PDU
+pub grown : (s : Summary) {r : Summary} (kind : ℕ) {m n : ℕ} (start : ℕ) (l : List ℕ) → m ≡ n
+    → r ≡ count s kind (take m (drop start l)) → r .unknown ≤ s .unknown + 3 + n
+grown s kind {m} start l em er =
+    rw er (omega (arith, count-unknown s kind (take m (drop start l)), length-take m (drop start l)))

@@ -1,0 +1,31 @@
+// The message layer's TLV lists, walked where they lie: what stands at a place, what a list comes to, and the copy of what is unknown.
+mod copies;
+mod steps;
+mod summaries;
+
+pub use copies::copy_unknown;
+pub use summaries::summary_of;
+
+// What stands at a place of the list: a TLV (its type, where its value starts, the value's length, and where the next one stands),
+// the End, or what makes the list bad.
+pub enum Step {
+    Tlv(u8, usize, usize, usize),
+    End,
+    Bad,
+}
+
+// What a value of type 37 says: it makes the list bad, is no timer, or is the timer with its seconds.
+pub enum Timer {
+    Broken,
+    Other,
+    Seconds(u32),
+}
+
+// What a list comes to. Of a bad one nothing more is said (false and 0); of another, whether there is a timer, its seconds, and how
+// many octets its unknown TLVs have.
+pub struct Summary {
+    pub bad: bool,
+    pub timed: bool,
+    pub seconds: u32,
+    pub unknown: usize,
+}

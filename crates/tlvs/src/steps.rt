@@ -1,0 +1,27 @@
+// What stands at a place of a TLV list.
+ghost use mathlib.Core.Path.{_≡_};
+ghost use Rattle.tlvs.specs.Walk.{stepAt};
+use crate::Step;
+
+// The place may lie past the end of the PDU.
+pub fn tlv_at(pdu: &[u8], at: usize) -> Step
+    ensures { λ r. ⌜ r ≡ stepAt (now (pdu .entry)) at ⌝ }
+{
+    if pdu.len() <= at {
+        return Step::Bad; // no End
+    }
+    let kind = pdu[at];
+    if kind == 0 {
+        return Step::End;
+    }
+    let left = pdu.len() - at;
+    if left < 3 {
+        return Step::Bad; // a length cut short
+    }
+    let len = octets::number2(pdu, at + 1);
+    if left - 3 < len {
+        return Step::Bad; // a value past the PDU
+    }
+    let start = at + 3;
+    Step::Tlv(kind, start, len, start + len)
+}
