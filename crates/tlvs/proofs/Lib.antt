@@ -7,3 +7,10 @@ mod Copy
 pub mod After
 pub mod Written
 pub mod AddedLaws
+mod Locals
+mod Calling
+mod Held
+mod Promised
+mod Asking
+mod Reading
+mod Again

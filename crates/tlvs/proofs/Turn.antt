@@ -1,19 +1,24 @@
--- A turn and the ends of the loop that sums a list up.
-use mathlib.Core.Path.{_≡_, refl}
+-- The loop that sums a list up: a turn, its ends, and its state.
+use mathlib.Core.Path.{_≡_, refl, ap, sym, _∙_}
 use mathlib.Core.Bool.{Bool, true, false, cond}
-use mathlib.Core.List.{List}
-use Prim.Native.Nat.{ℕ, _+_, _≤_}
+use mathlib.Core.List.{List, [], _∷_}
+use Prim.Native.Nat.{ℕ, _+_, _<_, _≤_, _^_}
 use native.Mathlib.Omega.{arith}
-use lib.Dec.{eqb}
+use lib.Dec.{eqb, lit<}
 use lib.ListN.{length, take, drop, length-take}
+use mir.Val.{Val}
+use denote.Laws.{Is}
+use denote.Struct.Laws as LL
 use Rattle.tlvs.specs.Tlv.{Tlv, Parsed, ended, cut, followed, parse}
-use Rattle.tlvs.specs.Walk.{stepAt, timerOf, tlvOf, badSummary, withUnknown, byTimer, count}
+use Rattle.tlvs.specs.Walk.{stepAt, timerOf, tlvOf, badSummary, summaryOf, withUnknown, byTimer, count}
 use Rattle.tlvs.specs.declared.Step.the-variants.{Tlv as Found, End, Bad}
 use Rattle.tlvs.specs.declared.Timer.{Timer}
 use Rattle.tlvs.specs.declared.Timer.the-variants.{Broken, Other, Seconds}
 use Rattle.tlvs.specs.declared.Summary.{Summary}
-use Rattle.tlvs.proofs.Walk.{parse-at}
-use Rattle.tlvs.proofs.Sum.{sumUp}
+use Rattle.tlvs.proofs.Walk.{parse-at, stood}
+use Rattle.tlvs.proofs.Sum.{sumUp, emptySummary, sum-all}
+use Rattle.tlvs.proofs.Summary as Y
+use Rattle.tlvs.proofs.Summary.Laws as Y′
 
 sum-followed : (s : Summary) (t : Tlv) (p : Parsed) → sumUp s (followed t p) ≡ sumUp (count s (t .kind) (t .value)) p
 unfolding followed
@@ -57,3 +62,44 @@ pub grown : (s : Summary) {r : Summary} (kind : ℕ) {m n : ℕ} (start : ℕ) (
     → r ≡ count s kind (take m (drop start l)) → r .unknown ≤ s .unknown + 3 + n
 grown s kind {m} start l em er =
     rw er (omega (arith, count-unknown s kind (take m (drop start l)), length-take m (drop start l)))
+
+-- ---- the state: the reader's place, and the summary so far with its machine value
+pub record Met (l : List ℕ) (n : ℕ) : Type 0 where
+  pub place : ℕ
+  pub sum : Summary
+  pub low : Val
+  pub fits : place < 2 ^ 64
+  pub is : Is Y.the-row sum (low ∷ [])
+  pub few : sum .unknown ≤ place
+  pub same : sumUp sum (parse (drop place l)) ≡ summaryOf (parse (drop n l))
+
+abbrev pub begun : (l : List ℕ) (n : ℕ) → n < 2 ^ 64 → Met l n
+begun l n fits = record {
+  place = n;
+  sum = emptySummary;
+  low = Y′.lowered emptySummary;
+  fits = fits;
+  is = LL.owes Y.the-type Y′.the-laws emptySummary (refl, (refl, ((refl, lit< tt), ((refl, lit< tt), tt))));
+  few = omega arith;
+  same = sum-all (parse (drop n l));
+}
+
+-- a turn that met a TLV, and was handed its value
+module _ {l : List ℕ} {n : ℕ} (t : Met l n) {kind start len next : ℕ} (e : Found kind start len next ≡ stepAt l (t .place))
+    {v : List ℕ} (ev : v ≡ take len (drop start l)) where
+  pub counts : next < 2 ^ 64 → t .sum .unknown + 3 + length v < 2 ^ 64
+  counts fits = rw ev (omega (arith, stood l (t .place) (sym e), t .few, length-take len (drop start l)))
+
+  abbrev pub onward : {sum : Summary} {low : Val} → sum ≡ count (t .sum) kind v → Is Y.the-row sum (low ∷ []) → next < 2 ^ 64
+      → Met l n
+  onward {sum} {low} es is fits =
+      let ec : sum ≡ count (t .sum) kind (take len (drop start l)) = es ∙ ap (count (t .sum) kind) ev in
+      record {
+        place = next;
+        sum = sum;
+        low = low;
+        fits = fits;
+        is = is;
+        few = omega (arith, stood l (t .place) (sym e), t .few, grown (t .sum) kind {m = len} start l refl ec);
+        same = turn l (t .place) (t .sum) (sym e) refl ec ∙ t .same;
+      }

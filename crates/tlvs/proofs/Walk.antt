@@ -2,6 +2,7 @@
 use mathlib.Core.Path.{_≡_, refl, ap, sym, _∙_}
 use mathlib.Core.Bool.{Bool, true, false, cond}
 use mathlib.Core.List.{List, [], _∷_}
+use mathlib.Core.WellFounded.{WellFounded, InvImage·wf}
 use Prim.Native.Nat.{ℕ, zero, suc, _+_, _-_, _≤_, _<_}
 use native.Mathlib.Numerals.{add-one}
 use native.Mathlib.Decide.{decLe, decLt}
@@ -9,6 +10,7 @@ use native.Mathlib.Omega.{arith}
 use lib.Dec.{leb, ltb, eqb}
 use lib.ListN.{length, take, drop, getD, length-drop, drop-of-length-le}
 use lib.Seq.{drop-cons, drop-drop}
+use lib.WfN.{Nat·lt-wfRel}
 use borrow.Author.Tests.{lt-ltb, le-ltb, le-leb, lt-leb, leb-true}
 use Rattle.octets.specs.Octets.{number}
 use Rattle.tlvs.specs.Tlv.{Parsed, ended, cut, followed, walk, parse}
@@ -89,3 +91,20 @@ stood l at {kind} {start} {len} {next} e =
     go false b d t h = let z : _≡_ {A = ℕ} 0 1 = cc in absurd (omega arith)
     go true true d t h = let z : _≡_ {A = ℕ} 0 1 = cc in absurd (omega arith)
     go true false false t h = let z : _≡_ {A = ℕ} 0 1 = cc in absurd (omega arith)
+
+-- a walk's state comes nearer to the end of the list in each turn that meets a TLV
+abbrev pub Nearer : {X : Type 0} → List ℕ → (X → ℕ) → X → X → Type 0
+Nearer l place a b = length l - place a < length l - place b
+
+pub nearer-wf : {X : Type 0} (l : List ℕ) (place : X → ℕ) → WellFounded (Nearer l place)
+nearer-wf {X} l place = InvImage·wf (λ (t : X). length l - place t) (Nat·lt-wfRel .wf)
+
+module _ (l : List ℕ) (at : ℕ) {kind start len next : ℕ} (e : Found kind start len next ≡ stepAt l at) where
+  met : Stood l at start len next
+  met = stood l at (sym e)
+
+  pub nearer : length l - next < length l - at
+  nearer = omega (arith, met)
+
+  pub in-list : start + len ≤ length l
+  in-list = omega (arith, met)

@@ -6,7 +6,7 @@ ghost use Rattle.octets.specs.Octets.{over, splice};
 ghost use Rattle.tlvs.specs.Tlv.{parse, isTimer, unknown};
 ghost use Rattle.tlvs.specs.Walk.{tlvOf, kept};
 use crate::Step;
-use crate::steps::tlv_at;
+use crate::readers::TlvReader;
 
 fn is_timer(kind: u8, value: &[u8]) -> bool
     ensures { λ r. ⌜ r ≡ isTimer (tlvOf kind (now (value .entry))) ⌝ }
@@ -45,13 +45,13 @@ pub fn copy_unknown(out: &mut [u8], pdu: &[u8], from: usize) -> usize
     ensures { λ r. ⌜ (r ≡ length (unknown (parse (drop from (now (pdu .entry))) .tlvs)))
         × (now (out .exit) ≡ over (unknown (parse (drop from (now (pdu .entry))) .tlvs)) (now (out .entry))) ⌝ }
 {
-    let mut at = from;
+    let mut r = TlvReader::new(pdu, from);
     let mut n = 0;
     loop {
-        match tlv_at(pdu, at) {
+        match r.next() {
             Step::Tlv(kind, start, len, next) => {
-                n = copy_one(&mut out[..], n, kind, &pdu[start..start + len]);
-                at = next;
+                n = copy_one(&mut out[..], n, kind, r.value(start, len));
+                r = r.moved(next);
             }
             Step::End => return n,
             Step::Bad => return n,

@@ -1,9 +1,11 @@
 // The message layer's TLV lists, walked where they lie: what stands at a place, what a list comes to, and the copy of what is unknown.
 mod copies;
+mod readers;
 mod steps;
 mod summaries;
 
 pub use copies::copy_unknown;
+pub use readers::TlvReader;
 pub use summaries::summary_of;
 
 // What stands at a place of the list: a TLV (its type, where its value starts, the value's length, and where the next one stands),

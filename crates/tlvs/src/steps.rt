@@ -1,5 +1,7 @@
 // What stands at a place of a TLV list.
 ghost use mathlib.Core.Path.{_≡_};
+ghost use Prim.Native.Nat.{_+_, _≤_};
+ghost use lib.ListN.{length, take, drop};
 ghost use Rattle.tlvs.specs.Walk.{stepAt};
 use crate::Step;
 
@@ -24,4 +26,12 @@ pub fn tlv_at(pdu: &[u8], at: usize) -> Step
     }
     let start = at + 3;
     Step::Tlv(kind, start, len, start + len)
+}
+
+// A part of the PDU, where it lies.
+pub fn value_at<'a>(pdu: &'a [u8], start: usize, len: usize) -> &'a [u8]
+    requires { ⌜ start + len ≤ length (now pdu) ⌝ }
+    ensures { λ v. ⌜ now v ≡ take len (drop start (now (pdu .entry))) ⌝ }
+{
+    &pdu[start..start + len]
 }

@@ -7,7 +7,7 @@ ghost use Rattle.tlvs.specs.Walk.{timerOf, badSummary, summaryOf, withUn
 use crate::Step;
 use crate::Summary;
 use crate::Timer;
-use crate::steps::tlv_at;
+use crate::readers::TlvReader;
 
 fn timer_of(value: &[u8]) -> Timer
     ensures { λ r. ⌜ r ≡ timerOf (now (value .entry)) ⌝ }
@@ -90,12 +90,12 @@ pub fn summary_of(pdu: &[u8], from: usize) -> Summary
         seconds: 0,
         unknown: 0,
     };
-    let mut at = from;
+    let mut r = TlvReader::new(pdu, from);
     loop {
-        match tlv_at(pdu, at) {
+        match r.next() {
             Step::Tlv(kind, start, len, next) => {
-                s = counted(s, kind, &pdu[start..start + len]);
-                at = next;
+                s = counted(s, kind, r.value(start, len));
+                r = r.moved(next);
             }
             Step::End => return s,
             Step::Bad => return bad_summary(),
