@@ -9,7 +9,7 @@ use lib.ListN.{length, replicate}
 use borrow.Author.Tests.{not-false, eqb-true}
 use Rattle.octets.specs.Lists.{within, every, ascends}
 use Rattle.octets.proofs.ListLaws.{within-low}
-use Rattle.octets.proofs.Round.{Octets}
+use Rattle.octets.proofs.Laws.{Octets}
 use Rattle.plan.specs.Plan.{Plan, flowNumbered, inPlan, keepsRules}
 use Rattle.plan.specs.PlanText.{Reading, fault, planned, planIn}
 use Rattle.plan.proofs.ReadKeeps.{read-keeps}

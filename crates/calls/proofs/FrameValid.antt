@@ -7,7 +7,8 @@ use lib.ListN.{length, drop}
 use lib.Seq.{getD-drop}
 use Rattle.octets.specs.Octets.{number}
 use Rattle.octets.proofs.Same.{both-true}
-use Rattle.octets.proofs.Round.{Octets, number-fits}
+use Rattle.octets.proofs.Laws.{Octets}
+use Rattle.octets.proofs.Round.{number-fits}
 use Rattle.codec.specs.declared.Addressed.{Addressed}
 use Rattle.codec.specs.declared.Addressed.the-variants.{Elsewhere, Unicast, Multicast}
 use Rattle.codec.specs.declared.FrameSet.{FrameSet}

@@ -6,7 +6,7 @@ use Prim.Native.Nat.{ℕ, _+_, _-_, _*_, _/_, _%_, _≤_}
 use native.Mathlib.Omega.{arith}
 use lib.ListN.{length, take, drop, length-drop, take-append-drop}
 use lib.Seq.{length-take-le, getD-drop}
-use Rattle.octets.proofs.Round.{Octets}
+use Rattle.octets.proofs.Laws.{Octets}
 use Rattle.tlvs.proofs.Short.{good-list, parse-short}
 use Rattle.tlvs.proofs.Walk.{drop-to}
 use Rattle.tlvs.proofs.Written.{Listed, parse-listed}

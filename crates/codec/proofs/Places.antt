@@ -10,8 +10,7 @@ use lib.Seq.{getD-drop, drop-drop}
 use borrow.Author.Tests.{eqb-true, eq-eqb, ltb-false}
 use Rattle.octets.specs.Octets.{number}
 use Rattle.octets.specs.Lists.{within}
-use Rattle.octets.proofs.Laws.{number-parts}
-use Rattle.octets.proofs.Round.{Octets}
+use Rattle.octets.proofs.Laws.{Octets, number-parts}
 use Rattle.codec.specs.declared.FrameSet.{FrameSet}
 use Rattle.codec.specs.declared.Place.the-variants.{NoSet, InSet}
 use Rattle.codec.specs.FrameSet.{uni, enni, untagged, c-tagged, s-tagged, c-tag, s-tag}

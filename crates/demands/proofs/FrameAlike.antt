@@ -8,7 +8,8 @@ use lib.ListN.{length, drop, length-drop}
 use lib.Seq.{getD-drop}
 use borrow.Author.Tests.{not-false}
 use Rattle.octets.specs.Lists.{within}
-use Rattle.octets.proofs.Round.{Octets, octets-number}
+use Rattle.octets.proofs.Laws.{Octets}
+use Rattle.octets.proofs.Round.{octets-number}
 use Rattle.codec.specs.declared.FrameSet.{FrameSet}
 use Rattle.codec.specs.declared.Place.{Place}
 use Rattle.codec.specs.declared.Place.the-variants.{NoSet, InSet}

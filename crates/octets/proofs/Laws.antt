@@ -1,18 +1,34 @@
 -- Laws of numbers in network order: one over the width, for each way to use it.
 use mathlib.Core.Path.{_≡_, refl, ap}
 use mathlib.Core.List.{List, [], _∷_, _++_}
-use Prim.Native.Nat.{ℕ, suc, zero, _+_, _*_, _^_, _≤_}
-use native.Mathlib.Nat.{add-zero, zero-add, suc-add, add-assoc, add-mul, mul-assoc, mul-one, zero-mul}
+use Prim.Native.Nat.{ℕ, suc, zero, _+_, _*_, _/_, _^_, _<_, _≤_}
+use native.Mathlib.Nat.{add-zero, zero-add, suc-add, add-assoc, add-mul, mul-assoc, mul-one, zero-mul, add-comm, div-div-eq-div-mul}
 use native.Mathlib.Omega.{arith}
 use lib.ListN.{length, getD, drop, length-drop, List·getD-append}
 use lib.Pow.{pow-add}
 use lib.Seq.{getD-drop, drop-drop, drop-nil, drop-append-le}
 use Rattle.octets.specs.Octets.{number, octets}
 
+-- a list of octets
+abbrev pub Octets : List ℕ → Type 0
+Octets l = (i : ℕ) → getD l i 0 < 256
+
 pub octets-length : (n x : ℕ) → length (octets n x) ≡ n
 unfolding octets
 octets-length zero x = refl
 octets-length (suc n) x = ap suc (octets-length n x)
+
+pub octets-small : (n x : ℕ) → Octets (octets n x)
+unfolding octets
+octets-small zero x i = omega arith
+octets-small (suc n) x zero = omega arith
+octets-small (suc n) x (suc i) = octets-small n x i
+
+-- the octets of a number, m of them and n more
+pub octets-join : (m n x : ℕ) → octets (m + n) x ≡ octets m (x / 256 ^ n) ++ octets n x
+unfolding octets
+octets-join zero n x = rw zero-add
+octets-join (suc m) n x = rw (suc-add, octets-join m n x, div-div-eq-div-mul, ← pow-add, add-comm n m)
 
 pub drop-more : (m : ℕ) (l : List ℕ) → drop m (drop 1 l) ≡ drop (suc m) l
 drop-more m [] = drop-nil m

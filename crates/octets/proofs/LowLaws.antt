@@ -10,8 +10,7 @@ use borrow.Author.Tests.{eq-eqb, ne-eqb}
 use lib.ListN.{length, getD, take, drop, length-drop, List·getD-append}
 use lib.Seq.{getD-drop, drop-drop, drop-append-le}
 use Rattle.octets.specs.Octets.{lowNumber, lowOctets, allZero}
-use Rattle.octets.proofs.Laws.{drop-more}
-use Rattle.octets.proofs.Round.{Octets}
+use Rattle.octets.proofs.Laws.{Octets, drop-more}
 use Rattle.octets.proofs.Cases.{by-eq}
 
 pub low-octets-length : (n x : ℕ) → length (lowOctets n x) ≡ n

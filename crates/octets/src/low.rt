@@ -1,13 +1,23 @@
 // Numbers of 2, 4, 6 and 8 octets with the lowest octet first, read at a place of a slice, and written at a place.
-use super::number::wide;
-use super::number::wider;
 use super::run::put_at;
 ghost use mathlib.Core.Path.{_≡_};
 ghost use Prim.Native.Nat.{_+_, _<_, _≤_, _^_};
 ghost use lib.ListN.{length, drop};
 ghost use Rattle.octets.specs.Octets.{lowNumber, lowOctets, splice};
 
-fn low_pair(s: &[u8], at: usize) -> u32
+pub fn wide(x: u8) -> u32
+    ensures { λ r. ⌜ (r ≡ x) × (r < 256) ⌝ }
+{
+    x as u32
+}
+
+pub fn wider(x: u32) -> u64
+    ensures { λ r. ⌜ (r ≡ x) × (r < 2 ^ 32) ⌝ }
+{
+    x as u64
+}
+
+pub fn low_pair(s: &[u8], at: usize) -> u32
     requires { ⌜ at + 2 ≤ length (now s) ⌝ }
     ensures { λ r. ⌜ (r ≡ lowNumber 2 (drop at (now (s .entry)))) × (r < 2 ^ 16) ⌝ }
 {

@@ -48,7 +48,7 @@ fn put_copies(out: &mut [u8], count: usize, request: &[u8]) -> usize
 }
 
 // A reply's PDU at the front of out, the rest of the output behind addresses and tags; answers how many octets that is.
-pub fn put_reply(out: &mut [u8], r: ReplyFields, count: usize, request: &[u8]) -> usize
+fn put_reply(out: &mut [u8], r: ReplyFields, count: usize, request: &[u8]) -> usize
     requires { ⌜ (r .level < 8) × ((21 + count ≤ length (now out)) × (count ≡ length (copied count (now request)))) ⌝ }
     ensures { λ n. ⌜ (n ≡ length (replyOf r count (now (request .entry))))
         × (now (out .exit) ≡ over (replyOf r count (now (request .entry))) (now (out .entry))) ⌝ }

@@ -4,8 +4,8 @@ use codec::Status;
 mod answer;
 mod reply;
 
-pub use answer::put_reply;
 pub use answer::put_reply_frame;
+pub use reply::put_bare;
 pub use reply::put_head;
 pub use reply::put_looped;
 

@@ -1,6 +1,6 @@
 // "Replies", octet by octet, and the loop of a data frame.
 ghost use mathlib.Core.Path.{_≡_};
-ghost use mathlib.Core.List.{_++_};
+ghost use mathlib.Core.List.{[], _∷_, _++_};
 ghost use Prim.Native.Nat.{_+_, _<_, _≤_};
 ghost use lib.ListN.{length};
 ghost use Rattle.octets.specs.Octets.{octets, over};
@@ -102,6 +102,17 @@ pub fn put_header(out: &mut [u8], level: u8, flagged: u8, kind: u8, code: u8, po
         m[5],
     ];
     octets::copy_into(out, &h);
+}
+
+// The PDU of a reply without a TLV, header and End, at the front of out; answers how many octets that is.
+pub fn put_bare(out: &mut [u8], level: u8, flagged: u8, kind: u8, code: u8, port: u64) -> usize
+    requires { ⌜ (13 ≤ length (now out)) × (level < 8) ⌝ }
+    ensures { λ r. ⌜ (r ≡ 13)
+        × (now (out .exit) ≡ over (header level flagged kind code port ++ (0 ∷ [])) (now (out .entry))) ⌝ }
+{
+    put_header(&mut out[..], level, flagged, kind, code, port);
+    octets::copy_into(&mut out[12..], &[0u8]);
+    13
 }
 
 // The timer TLV's 8 octets, at the front of out.

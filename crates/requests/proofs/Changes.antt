@@ -45,20 +45,12 @@ module _ (s : State) (x : Arrived) where
   own-changed (Restarted y) p = machine-put (ownKey x) y (s .sessions) (p .keyed) (p .running)
   own-changed Closed p = machine-without (ownKey x) (s .sessions)
 
-  module _ (numbered : 1 ≤ x .flow .number) where
-    abbrev Room : Session → Type 0
-    Room y = (y .source < 2 ^ 48) × ((1 ≤ keyOf y) × (length (put keyOf y (s .sessions)) ≤ 16))
-
-    has-room : (y : Session) → Fitting y → Room y
-    unfolding ownKey key
-    has-room y f = (f .source-fits, (omega (arith, f .keyed, numbered), f .room))
-
-    pub put-room : (change : Change) → Puts change → (y : Session) → after change Inactive ≡ Active y → Room y
-    unfolding after
-    put-room Same p y e = never-active y e
-    put-room (Opened z) p y e = rw (active-same z y e) at (has-room z p)
-    put-room (Restarted z) p y e = rw (active-same z y e) at (has-room z p)
-    put-room Closed p y e = never-active y e
+  pub put-fits : (change : Change) → Puts change → (y : Session) → after change Inactive ≡ Active y → Fitting y
+  unfolding after
+  put-fits Same p y e = never-active y e
+  put-fits (Opened z) p y e = rw (active-same z y e) at p
+  put-fits (Restarted z) p y e = rw (active-same z y e) at p
+  put-fits Closed p y e = never-active y e
 
   module _ (v : valid s ≡ true) (quiet : noticeDue s ≡ false) (fits : source (x .frame) < 2 ^ 48) where
     few-open : roomFor (x .flow) s ≡ 0 → length (s .sessions) < 16

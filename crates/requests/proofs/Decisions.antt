@@ -2,12 +2,11 @@
 use mathlib.Core.Path.{_≡_, refl, sym, ap, _∙_}
 use mathlib.Core.Bool.{Bool, true, false, cond}
 use mathlib.Core.List.{List}
-use Prim.Native.Nat.{ℕ, zero, suc, _^_, _<_, _≤_}
+use Prim.Native.Nat.{ℕ, zero, suc, _^_, _<_}
 use native.Mathlib.Omega.{arith}
 use lib.Dec.{eqb}
-use lib.ListN.{length, getD}
+use lib.ListN.{getD}
 use borrow.Author.Tests.{eq-eqb, ne-eqb}
-use Rattle.octets.specs.Lists.{put}
 use Rattle.octets.proofs.Cases.{by-eq}
 use Rattle.codec.specs.declared.Status.{Status}
 use Rattle.codec.specs.declared.Addressed.{Addressed}
@@ -19,11 +18,12 @@ use Rattle.machine.specs.declared.Machine.the-variants.{Inactive, Active}
 use Rattle.machine.specs.declared.Change.the-variants.{Same}
 use Rattle.machine.specs.declared.Decided.{Decided}
 use Rattle.machine.specs.Table.{Event, admit, conditionNumber, eventNumber, eventAt, actionOf, actionAt}
-use Rattle.machine.specs.Machine.{keyOf, conditionOf, answered, decided, after, statusOf}
+use Rattle.machine.specs.Machine.{conditionOf, answered, decided, after, statusOf}
 use Rattle.machine.proofs.Laws.{action-at}
 use Rattle.plan.specs.declared.Flow.{Flow}
 use Rattle.state.specs.State.{State, valid, isAllowed, machineOf, roomFor, noticeDue}
 use Rattle.state.specs.Image.{image, stateOf}
+use Rattle.state.specs.Rows.{sessionAt}
 use Rattle.state.proofs.ImageLaws.{ok-valid}
 use Rattle.calls.specs.declared.Answer.{Answer}
 use Rattle.calls.specs.declared.Answer.the-variants.{Replied, RepliedForwarded}
@@ -31,9 +31,9 @@ use Rattle.calls.specs.Answer.{sends}
 use Rattle.calls.specs.Frame.{Arrived, ownKey, own, ownAction, newSession, goesOn, replied, changed, decides}
 use Rattle.requests.specs.declared.Asked.{Asked}
 use Rattle.requests.specs.declared.Coming.{Coming}
-use Rattle.requests.specs.Serving.{Came, Served, arrivedIn, askedOf, decision}
+use Rattle.requests.specs.Serving.{Came, Placed, Served, arrivedIn, askedOf, decision}
 use Rattle.requests.proofs.Parts.{source-fits}
-use Rattle.requests.proofs.Changes.{Puts, own-changed, put-room, decided-puts}
+use Rattle.requests.proofs.Changes.{Fitting, Puts, own-changed, put-fits, decided-puts}
 use Rattle.requests.proofs.Answered.{replyTo, replied-served}
 
 event-there : (event : ℕ) → event < 3 → event ≡ eventNumber (eventAt event)
@@ -98,10 +98,15 @@ module _ {b : List ℕ} {a : Coming} {frame out : List ℕ} (came : Came b a fra
       rw ed
       (decision-puts (stateOf b) (arrivedIn b a frame) (ok-valid b (came .ok)) (came .quiet) (source-fits frame octets) request)
 
-  pub change-room : (y : Session) → after (d .change) Inactive ≡ Active y
-      → (y .source < 2 ^ 48) × ((1 ≤ keyOf y) × (length (put keyOf y (stateOf b .sessions)) ≤ 16))
-  unfolding arrivedIn
-  change-room = put-room (stateOf b) (arrivedIn b a frame) (came .number-some) (d .change) puts
+  pub change-placed : {key row : ℕ} → key ≡ ownKey (arrivedIn b a frame) → row ≡ sessionAt key b
+      → (y : Session) → after (d .change) Inactive ≡ Active y → Placed b row y
+  change-placed ek er y e =
+      let f : Fitting (stateOf b) (arrivedIn b a frame) y = put-fits (stateOf b) (arrivedIn b a frame) (d .change) puts y e in
+      record {
+        source-fits = f .source-fits;
+        found = er ∙ ap (λ (k : ℕ). sessionAt k b) (ek ∙ sym (f .keyed));
+        room = f .room;
+      }
 
   pub decision-replied : (whom : Addressed) (on : Bool) {key : ℕ} {m : Machine} (status : Status) (copies : List ℕ) {r : Answer}
       {left before later : List ℕ} → on ≡ goesOn (arrivedIn b a frame) whom → key ≡ ownKey (arrivedIn b a frame)

@@ -13,8 +13,9 @@ use Rattle.machine.specs.declared.Change.the-variants.{Same, Opened, Restarted,
 use Rattle.machine.specs.Machine.{keyOf, after}
 use Rattle.state.specs.State.{State, withSessions}
 use Rattle.state.specs.Image.{image, stateOf, okImage}
+use Rattle.state.specs.Rows.{sessionAt}
 use Rattle.state.proofs.ImageLaws.{ok-valid, image-state}
-use Rattle.store.specs.Stored.{sessionPut, sessionRemoved}
+use Rattle.store.specs.Stored.{sessionPut, rowRemoved, sessionRemoved}
 use Rattle.store.proofs.Images.{Laid, laid, put-image, removed-image}
 use Rattle.calls.specs.Frame.{changed}
 
@@ -39,13 +40,14 @@ module _ (b : List ℕ) (ok : okImage b ≡ true) (key : ℕ) where
   same-left e = rw e (sym (image-state b ok))
 
   module _ {c : List ℕ} where
-    pub closed-left : {change : Change} → change ≡ Closed → c ≡ sessionRemoved key b → c ≡ image (changed key change s)
-    unfolding changed
-    closed-left e h = rw e (h ∙ ap (sessionRemoved key) (sym (image-state b ok)) ∙ removed-image s rows key)
+    pub closed-left : {change : Change} {row : ℕ} → change ≡ Closed → row ≡ sessionAt key b → c ≡ rowRemoved row b
+        → c ≡ image (changed key change s)
+    unfolding changed sessionRemoved
+    closed-left e er h = rw e (rw er at h ∙ ap (sessionRemoved key) (sym (image-state b ok)) ∙ removed-image s rows key)
 
-    module _ (x : Session) (h : c ≡ sessionPut x b) (some : 1 ≤ keyOf x) (room : length (put keyOf x (s .sessions)) ≤ 16) where
+    module _ (x : Session) (h : c ≡ sessionPut x b) (room : length (put keyOf x (s .sessions)) ≤ 16) where
       put-left : c ≡ image (withSessions (put keyOf x (s .sessions)) s)
-      put-left = h ∙ ap (sessionPut x) (sym (image-state b ok)) ∙ put-image s rows x some room
+      put-left = h ∙ ap (sessionPut x) (sym (image-state b ok)) ∙ put-image s rows x room
 
       pub kept-left : {change : Change} → Keeps change x → c ≡ image (changed key change s)
       unfolding changed

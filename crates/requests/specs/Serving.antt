@@ -2,18 +2,20 @@
 use mathlib.Core.Path.{_≡_}
 use mathlib.Core.Bool.{true, false, cond}
 use mathlib.Core.List.{List}
-use Prim.Native.Nat.{ℕ, _+_, _≤_}
+use Prim.Native.Nat.{ℕ, _+_, _^_, _<_, _≤_}
 use lib.Dec.{eqb}
 use lib.ListN.{length}
 use Rattle.octets.specs.Octets.{over}
+use Rattle.octets.specs.Lists.{put}
 use Rattle.codec.specs.declared.Request.{Request}
 use Rattle.codec.specs.declared.Request.the-variants.{Malformed, Reserved, Activate, Deactivate, State as StateRequest}
+use Rattle.machine.specs.declared.Session.{Session}
 use Rattle.machine.specs.declared.Decided.{Decided}
 use Rattle.machine.specs.Table.{eventAt}
-use Rattle.machine.specs.Machine.{answered}
+use Rattle.machine.specs.Machine.{keyOf, answered}
 use Rattle.state.specs.State.{State, noticeDue}
 use Rattle.state.specs.Image.{image, stateOf, okImage}
-use Rattle.state.specs.Rows.{flowOfRow}
+use Rattle.state.specs.Rows.{sessionAt, flowOfRow}
 use Rattle.calls.specs.declared.Answer.{Answer}
 use Rattle.calls.specs.Answer.{Sent}
 use Rattle.calls.specs.Frame.{Arrived, decides}
@@ -39,6 +41,12 @@ pub record Came (b : List ℕ) (a : Coming) (frame out : List ℕ) : Type 0 wher
   pub tags-fit : 14 + a .tags ≤ length frame
   pub frame-fits : length frame ≤ 2000
   pub room : 2008 ≤ length out
+
+-- a session that can be put into an image: this row is that of its key, or 0, and there is room for it
+pub record Placed (b : List ℕ) (row : ℕ) (x : Session) : Type 0 where
+  pub source-fits : x .source < 2 ^ 48
+  pub found : row ≡ sessionAt (keyOf x) b
+  pub room : length (put keyOf x (stateOf b .sessions)) ≤ 16
 
 -- what a request asks of its machine; the event of one that no machine is asked is of no account
 unfoldable pub askedOf : Request → Asked

@@ -18,19 +18,18 @@ use store::put_session;
 use store::remove_session;
 ghost use mathlib.Core.Path.{_≡_};
 ghost use mathlib.Core.Bool.{true};
-ghost use Prim.Native.Nat.{_+_, _<_, _≤_, _^_};
+ghost use Prim.Native.Nat.{ℕ, _+_, _<_, _≤_};
 ghost use lib.ListN.{length};
-ghost use Rattle.octets.specs.Lists.{put};
 ghost use Rattle.machine.specs.declared.Session.{Session};
 ghost use Rattle.machine.specs.declared.Machine.the-variants.{Inactive, Active};
 ghost use Rattle.machine.specs.Table.{admit};
-ghost use Rattle.machine.specs.Machine.{keyOf, after};
+ghost use Rattle.machine.specs.Machine.{after};
 ghost use Rattle.plan.specs.declared.Flow.{Flow};
 ghost use Rattle.state.specs.State.{isAllowed, roomFor};
 ghost use Rattle.state.specs.Image.{image, stateOf, okImage};
-ghost use Rattle.state.specs.Rows.{flowOfRow};
+ghost use Rattle.state.specs.Rows.{sessionAt, flowOfRow};
 ghost use Rattle.calls.specs.Frame.{ownKey, own, newSession, changed};
-ghost use Rattle.requests.specs.Serving.{arrivedIn, askedOf, decision};
+ghost use Rattle.requests.specs.Serving.{Placed, arrivedIn, askedOf, decision};
 
 // The key of a frame's machine.
 pub fn own_key(b: &[u8], a: Coming, frame: &[u8]) -> u64
@@ -110,16 +109,16 @@ pub fn decides(b: &[u8], a: Coming, frame: &[u8], m: Machine, request: Request) 
     decide(act, room_at(b, act), q.seconds, new, m)
 }
 
-// Writes the change of the session that has this key.
-pub fn change_session(b: &mut [u8], key: u64, change: Change)
-    requires { ⌜ okImage (now b) ≡ true ⌝ }
-    requires { ⌜ ((x : Session) → after change Inactive ≡ Active x
-        → (x .source < 2 ^ 48) × ((1 ≤ keyOf x) × (length (put keyOf x (stateOf (now b) .sessions)) ≤ 16))) ⌝ }
-    ensures { λ _. ⌜ now (b .exit) ≡ image (changed key change (stateOf (now (b .entry)))) ⌝ }
+// Writes the change of the session of a row, or of one that has no row yet (0).
+pub fn change_session(b: &mut [u8], row: usize, change: Change)
+    requires { ⌜ (okImage (now b) ≡ true) × (row ≤ 2016) ⌝ }
+    requires { ⌜ ((x : Session) → after change Inactive ≡ Active x → Placed (now b) row x) ⌝ }
+    ensures { λ _. ⌜ ((key : ℕ) → row ≡ sessionAt key (now (b .entry))
+        → now (b .exit) ≡ image (changed key change (stateOf (now (b .entry))))) ⌝ }
 {
     match change {
         Change::Same => {}
-        Change::Opened(x) | Change::Restarted(x) => put_session(b, x),
-        Change::Closed => remove_session(b, key),
+        Change::Opened(x) | Change::Restarted(x) => put_session(b, row, x),
+        Change::Closed => remove_session(b, row),
     }
 }

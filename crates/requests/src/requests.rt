@@ -10,7 +10,7 @@ use calls::Answer;
 use codec::Addressed;
 use machine::status_after;
 use state::allows;
-use state::machine_of;
+use state::find_machine;
 use state::mp_of;
 use state::number_of;
 use state::wide;
@@ -51,10 +51,11 @@ fn answers(b: &mut [u8], a: Coming, frame: &[u8], out: &mut [u8], whom: Addresse
     let request = read.request;
     let on = goes_on(b, a, frame, whom);
     let key = own_key(b, a, frame);
-    let m = machine_of(b, key);
+    let found = find_machine(b, key);
+    let m = found.machine;
     let d = decides(b, a, frame, m, request);
     let change = d.change;
-    change_session(b, key, change);
+    change_session(b, found.row, change);
     reply(
         out,
         a,

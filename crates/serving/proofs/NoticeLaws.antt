@@ -1,20 +1,18 @@
 -- A notice written, and its session taken out.
-use mathlib.Core.Path.{_≡_, sym, ap, _∙_}
+use mathlib.Core.Path.{_≡_, refl, sym, ap, _∙_}
 use mathlib.Core.Bool.{true}
-use mathlib.Core.List.{List, [], _++_}
+use mathlib.Core.List.{List, [], _∷_, _++_}
 use Prim.Native.Nat.{ℕ, zero, suc, _+_, _-_, _*_, _^_, _<_, _≤_}
 use native.Mathlib.Nat.{zero-add, suc-add}
 use native.Mathlib.Omega.{arith}
-use lib.ListN.{length, take, drop, length-append, length-drop}
-use lib.Seq.{take-all, length-take-le}
+use lib.ListN.{length, take, drop, length-append}
+use lib.Seq.{take-all}
 use borrow.Rule.Slice.PartMut.{midOf, putMid}
 use Rattle.octets.specs.Octets.{octets, over}
+use Rattle.octets.specs.Lists.{within}
 use Rattle.octets.proofs.Laws.{octets-length}
-use Rattle.octets.proofs.Over.{then-over, length-over}
-use Rattle.codec.specs.declared.Status.{Status}
-use Rattle.codec.specs.Request.{copied}
-use Rattle.replies.specs.declared.ReplyFields.{ReplyFields}
-use Rattle.replies.specs.Reply.{replyFrame, replyPdu, replyOf}
+use Rattle.octets.proofs.Over.{then-over}
+use Rattle.replies.specs.Reply.{activeFlags, flagsBy, flags, header, carriesTimer, timerPart, replyPdu, replyFrame}
 use Rattle.machine.specs.declared.Session.{Session}
 use Rattle.machine.specs.declared.Machine.the-variants.{Inactive}
 use Rattle.machine.specs.Machine.{key, keyOf, statusOf}
@@ -22,10 +20,10 @@ use Rattle.plan.specs.declared.Port.{Port}
 use Rattle.plan.specs.Plan.{portNumbered}
 use Rattle.state.specs.State.{State, firstOwed}
 use Rattle.state.specs.Image.{stateOf, okImage}
-use Rattle.state.specs.Rows.{numberedAt, flowOfRow}
+use Rattle.state.specs.Rows.{sessionAt, numberedAt, flowOfRow}
 use Rattle.state.proofs.ImageLaws.{ok-valid, image-state}
 use Rattle.state.proofs.PlaceLaws.{numbered-flow, ok-places, ok-numbers}
-use Rattle.store.specs.Stored.{sessionRemoved}
+use Rattle.store.specs.Stored.{rowRemoved, sessionRemoved}
 use Rattle.store.proofs.Images.{laid, removed-image}
 use Rattle.calls.specs.declared.Answer.the-variants.{Noticed}
 use Rattle.calls.specs.Answer.{sends}
@@ -61,9 +59,11 @@ headOf requester from tag = octets 6 requester ++ octets 6 from ++ tag ++ octets
 head-length : (requester from : ℕ) (tag : List ℕ) → length (headOf requester from tag) ≡ 14 + length tag
 head-length requester from tag = simp (length-append, octets-length) (omega arith)
 
--- what a notice says
-abbrev fields : Port → Session → Status → ReplyFields
-fields port x status = record { level = x .level; kind = 2; code = x .notice; port = port .address; status = status }
+-- what a notice's PDU is: the header and End
+bare : (x : Session) (address : ℕ) → header (x .level) 0 2 (x .notice) address ++ (0 ∷ [])
+    ≡ replyPdu (x .level) 2 (x .notice) address (statusOf Inactive) []
+unfolding replyPdu timerPart carriesTimer flags flagsBy activeFlags header statusOf within octets
+bare x address = refl
 
 module _ (port : Port) (x : Session) (o : List ℕ)
     (pre : (x .level < 8) × ((x .count ≤ 4) × ((x .tag < 2 ^ 32) × (2008 ≤ length o))))
@@ -84,23 +84,18 @@ module _ (port : Port) (x : Session) (o : List ℕ)
   long : length head ≡ 14 + x .count
   long = head-length (x .source) (port .address) tag ∙ rw octets-length
 
-  pub rest-room : 21 ≤ length (take (length y - n) (drop n y))
-  rest-room =
-      let ly : length y ≡ length o = rw headed (length-over head o (omega (arith, long, pre))) in
-      let ld : length (drop n y) ≡ length y - n = length-drop n y in
-      omega (arith, pre, head-end, length-take-le (length y - n) (drop n y) (omega arith))
-
-  pub notice-written : {k : ℕ} {status : Status} {z : List ℕ} → status ≡ statusOf Inactive
-      → (k ≡ length (replyOf (fields port x status) 0 t))
-      × (z ≡ over (replyOf (fields port x status) 0 t) (midOf n (length y - n) y))
+  pub notice-written : {k : ℕ} {z : List ℕ}
+      → (k ≡ 13) × (z ≡ over (header (x .level) 0 2 (x .notice) (port .address) ++ (0 ∷ [])) (midOf n (length y - n) y))
       → (n + k ≡ length (noticeFrame port x)) × (putMid n (length y - n) y z ≡ over (noticeFrame port x) o)
-  unfolding noticeFrame replyFrame replyOf copied
-  notice-written es (ek, ez) =
+  unfolding noticeFrame replyFrame
+  notice-written (ek, ez) =
       let pdu : List ℕ = replyPdu (x .level) 2 (x .notice) (port .address) (statusOf Inactive) [] in
-      let all : length (head ++ pdu) ≡ length head + length pdu = length-append head pdu in
       let some : length (head ++ pdu) ≡ 27 + x .count = notice-length port x in
-      let end : length head ≡ n = long ∙ sym head-end in
-      (omega (arith, rw es at ek), then-over head pdu o n headed (rw es at ez) end (omega (arith, pre)))
+      let end : length head ≡ n = long ∙ sym head-end in (
+        omega (arith, ek, some, head-end),
+        then-over head pdu o n headed (rw (bare x (port .address)) at ez) end
+            (omega (arith, pre, some, length-append head pdu)),
+      )
 
 -- ---- the port, and the call
 
@@ -110,13 +105,13 @@ module _ (l : List ℕ) (ok : okImage l ≡ true) where
   unfolding portOf
   port-found x er en ep = rw (ep, en, er, numbered-flow l (ok-places l ok) (ok-numbers l ok) (x .flow))
 
-  pub notice-taken : {x : Session} {p : Port} {n : ℕ} {left out out′ : List ℕ} → x ≡ firstOwed (stateOf l)
+  pub notice-taken : {x : Session} {p : Port} {n row : ℕ} {left out out′ : List ℕ} → x ≡ firstOwed (stateOf l)
       → p ≡ portOf (stateOf l) x
       → (n ≡ length (noticeFrame p x)) × (out′ ≡ over (noticeFrame p x) out)
-      → left ≡ sessionRemoved (x .flow * 2 ^ 48 + x .source) l
+      → row ≡ sessionAt (x .flow * 2 ^ 48 + x .source) l → left ≡ rowRemoved row l
       → Served (noticeServed (stateOf l)) (Noticed (p .number) (x .side) n) left out out′
-  unfolding noticeServed noticed sends keyOf key
-  notice-taken {x} ex ep (en, eo) el =
+  unfolding noticeServed noticed sends sessionRemoved keyOf key
+  notice-taken {x} ex ep (en, eo) er el =
       let s : State = stateOf l in
       let gone : _ = rw (image-state l ok) at (removed-image s (laid s (ok-valid l ok)) (keyOf x)) in
-      rw (← ex, ← ep) (record { answered = rw en; stored = el ∙ gone; written = eo })
+      rw (← ex, ← ep) (record { answered = rw en; stored = rw er at el ∙ gone; written = eo })

@@ -1,16 +1,14 @@
 // The first notice that is owed: its frame written, and its session taken out.
 use calls::Answer;
-use machine::Machine;
 use machine::Session;
-use machine::status_of;
 use octets::octets4;
 use plan::Port;
-use replies::ReplyFields;
+use replies::put_bare;
 use replies::put_head;
-use replies::put_reply;
 use state::first_owed;
 use state::numbered_at;
 use state::port_numbered;
+use state::session_at;
 use state::wide;
 use store::remove_session;
 ghost use mathlib.Core.Path.{_≡_};
@@ -51,14 +49,7 @@ fn put_notice(out: &mut [u8], port: Port, x: Session) -> usize
     let tag = octets4(x.tag as u32);
     let start = 4 - wide(x.count);
     let n = put_head(&mut out[..], x.source, port.address, &tag[start..]);
-    let r = ReplyFields {
-        level: x.level,
-        kind: 2,
-        code: x.notice,
-        port: port.address,
-        status: status_of(Machine::Inactive),
-    };
-    n + put_reply(&mut out[n..], r, 0, &tag)
+    n + put_bare(&mut out[n..], x.level, 0, 2, x.notice, port.address)
 }
 
 pub fn take_notice(b: &mut [u8], out: &mut [u8]) -> Answer
@@ -68,6 +59,7 @@ pub fn take_notice(b: &mut [u8], out: &mut [u8]) -> Answer
     let x = first_owed(b);
     let port = port_of(b, x);
     let n = put_notice(out, port, x);
-    remove_session(b, x.flow as u64 * 281474976710656 + x.source);
+    let row = session_at(b, x.flow as u64 * 281474976710656 + x.source);
+    remove_session(b, row);
     Answer::Noticed(port.number, x.side, n as u32)
 }

@@ -58,6 +58,19 @@ found-first {A} read test passes other width same n start b h e =
     let same-one : A → A = λ x. x in
     found read test passes same-one (first passes other) width same (λ x xs. refl) n start b h e
 
+-- A row that is found passes the test.
+pub found-passes : (test : List ℕ → Bool) (width n start : ℕ) (b : List ℕ)
+    → (findRow n width test start (drop start b) ≡ 0 → ⊥)
+    → test (drop (findRow n width test start (drop start b)) b) ≡ true
+unfolding findRow
+found-passes test width zero start b h = absurd (h refl)
+found-passes test width (suc n) start b h =
+    by-test (eqb (lowNumber 8 (drop start b)) 0)
+    (λ e. absurd (h (simp e)))
+    (λ e. by-test (test (drop start b))
+    (λ t. simp (e, t))
+    (λ t. simp (e, t, drop-drop) (found-passes test width n (start + width) b (simp (e, t, drop-drop) at h))))
+
 -- A row that is found is one of the n.
 module _ (test : List ℕ → Bool) (width : ℕ) where
   pub found-inside : (n start : ℕ) (l : List ℕ) → (findRow n width test start l ≡ 0 → ⊥)

@@ -1,4 +1,4 @@
--- A row that is found lies in its table.
+-- A row that is found lies in its table, and that of a session has its key.
 use mathlib.Core.Path.{_≡_}
 use mathlib.Core.Bool.{Bool, true, false, cond, not}
 use mathlib.Core.List.{List}
@@ -6,13 +6,14 @@ use Prim.Native.Nat.{ℕ, _+_, _≤_}
 use native.Mathlib.Omega.{arith}
 use lib.Dec.{eqb}
 use lib.ListN.{getD, drop}
+use borrow.Author.Tests.{eqb-true}
 use Rattle.octets.specs.Octets.{lowNumber}
 use Rattle.octets.specs.Lists.{within}
 use Rattle.octets.proofs.Cases.{by-le}
 use Rattle.codec.specs.declared.FrameSet.{FrameSet}
 use Rattle.plan.specs.Plan.{setKey}
 use Rattle.state.specs.Rows.{portAt, flowAt, sessionAt, owedAt, rowAtPlace, numberedAt}
-use Rattle.state.proofs.FoundLaws.{found-inside, found-fits}
+use Rattle.state.proofs.FoundLaws.{found-passes, found-inside, found-fits}
 
 module _ (b : List ℕ) {r : ℕ} where
   pub port-fits : (number : ℕ) → r ≡ portAt number b → r + 16 ≤ 256
@@ -31,6 +32,11 @@ module _ (b : List ℕ) {r : ℕ} where
   pub session-from : (key : ℕ) → r ≡ sessionAt key b → (r ≡ 0 → ⊥) → 1536 ≤ r
   unfolding sessionAt
   session-from key e z = rw e (found-inside (λ l. eqb (lowNumber 8 l) key) 32 16 1536 (drop 1536 b) (rw e at z) .0)
+
+  pub session-keyed : (key : ℕ) → r ≡ sessionAt key b → (r ≡ 0 → ⊥) → lowNumber 8 (drop r b) ≡ key
+  unfolding sessionAt
+  session-keyed key e z =
+      rw e (eqb-true _ key (found-passes (λ l. eqb (lowNumber 8 l) key) 32 16 1536 b (rw e at z)))
 
   pub owed-fits : r ≡ owedAt b → r + 32 ≤ 2048
   unfolding owedAt

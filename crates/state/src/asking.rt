@@ -1,4 +1,5 @@
 // What an image says, whatever its octets are.
+use crate::Found;
 use crate::finding::owed_at;
 use crate::finding::port_at;
 use crate::finding::session_at;
@@ -21,7 +22,7 @@ ghost use Rattle.plan.specs.declared.Flow.{Flow};
 ghost use Rattle.plan.specs.Plan.{portNumbered, mpAt};
 ghost use Rattle.state.specs.State.{isAllowed, machineOf, roomFor, noticeDue, firstOwed};
 ghost use Rattle.state.specs.Image.{stateOf};
-ghost use Rattle.state.specs.Rows.{flowOfRow};
+ghost use Rattle.state.specs.Rows.{sessionAt, flowOfRow};
 
 pub fn clock_of(b: &[u8]) -> u32
     requires { ⌜ length (now b) ≡ 4096 ⌝ }
@@ -78,19 +79,36 @@ pub fn allows(b: &[u8], flow: usize) -> bool
     b[31 + flow] == 1
 }
 
+pub fn find_machine(b: &[u8], key: u64) -> Found
+    requires { ⌜ length (now b) ≡ 4096 ⌝ }
+    ensures { λ r. ⌜ (r .row ≡ sessionAt key (now (b .entry)))
+        × (r .machine ≡ machineOf key (stateOf (now (b .entry)) .sessions)) ⌝ }
+{
+    let row = session_at(b, key);
+    if row == 0 {
+        return Found {
+            row,
+            machine: Machine::Inactive,
+        };
+    }
+    let s = read_session(b, row);
+    if s.notice != 0 {
+        return Found {
+            row,
+            machine: Machine::Inactive,
+        };
+    }
+    Found {
+        row,
+        machine: Machine::Active(s),
+    }
+}
+
 pub fn machine_of(b: &[u8], key: u64) -> Machine
     requires { ⌜ length (now b) ≡ 4096 ⌝ }
     ensures { λ r. ⌜ r ≡ machineOf key (stateOf (now (b .entry)) .sessions) ⌝ }
 {
-    let at = session_at(b, key);
-    if at == 0 {
-        return Machine::Inactive;
-    }
-    let s = read_session(b, at);
-    if s.notice != 0 {
-        return Machine::Inactive;
-    }
-    Machine::Active(s)
+    find_machine(b, key).machine
 }
 
 pub fn notice_due(b: &[u8]) -> bool

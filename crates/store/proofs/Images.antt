@@ -80,10 +80,10 @@ unfolding withSessions head
 laid-with s xs l t = record { head-long = l .head-long; tabled = t }
 
 module _ (s : State) (l : Laid s) where
-  pub put-image : (x : Session) → 1 ≤ keyOf x → length (put keyOf x (s .sessions)) ≤ 16
+  pub put-image : (x : Session) → length (put keyOf x (s .sessions)) ≤ 16
       → sessionPut x (image s) ≡ image (withSessions (put keyOf x (s .sessions)) s)
   unfolding image head withSessions
-  put-image x some room = put-table (head s) x (s .sessions) (l .head-long) (l .tabled) some room
+  put-image x room = put-table (head s) x (s .sessions) (l .head-long) (l .tabled) room
 
   pub removed-image : (k : ℕ) → sessionRemoved k (image s) ≡ image (withSessions (without keyOf k (s .sessions)) s)
   unfolding image head withSessions

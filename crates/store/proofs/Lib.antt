@@ -5,6 +5,7 @@ pub mod Ways
 pub mod Kept
 pub mod Runs
 pub mod Tables
+pub mod Seeks
 pub mod Shift
 pub mod PutTable
 pub mod RemoveTable

@@ -1,5 +1,5 @@
 -- A session taken out of a table behind a head: the table of the sessions without it.
-use mathlib.Core.Path.{_≡_, refl}
+use mathlib.Core.Path.{_≡_}
 use mathlib.Core.Bool.{true, cond}
 use mathlib.Core.List.{List, [], _∷_, _++_}
 use Prim.Native.Nat.{ℕ, suc, zero, _+_, _-_, _*_, _≤_}
@@ -8,35 +8,27 @@ use native.Mathlib.Omega.{arith}
 use lib.Dec.{eqb}
 use lib.ListN.{length, drop}
 use lib.Seq.{drop-at}
-use borrow.Author.Tests.{eq-eqb, ne-eqb}
-use Rattle.octets.specs.Octets.{lowNumber, splice, movedDown}
+use borrow.Author.Tests.{ne-eqb}
+use Rattle.octets.specs.Octets.{splice, movedDown}
 use Rattle.octets.specs.Lists.{ascends, without}
 use Rattle.octets.proofs.Cases.{by-eq}
 use Rattle.octets.proofs.Ordered.{next-key, without-none}
 use Rattle.machine.specs.declared.Session.{Session}
 use Rattle.machine.specs.Machine.{keyOf}
 use Rattle.state.specs.Image.{zeros, sessionRow, table}
-use Rattle.state.specs.Rows.{findRow, sessionAt}
+use Rattle.state.specs.Rows.{sessionAt}
 use Rattle.state.proofs.RowLaws.{SessionFits, session-length}
 use Rattle.state.proofs.TableLaws.{Each}
-use Rattle.store.specs.Stored.{sessionRemoved}
-use Rattle.store.proofs.Tables.{Tabled, first-row, empty-key, first-key, behind-first, past-first, past-length, past-drop}
+use Rattle.store.specs.Stored.{rowRemoved, sessionRemoved}
+use Rattle.store.proofs.Tables.{Tabled, first-row, empty-key, past-first, past-length}
+use Rattle.store.proofs.Seeks.{seek, seek-none, seek-first, seek-later}
 use Rattle.store.proofs.Shift.{removed-behind, table-long, longer}
-
--- where the key stands, of k rows, the first of which stands at `start`
-abbrev seek : ℕ → ℕ → ℕ → List ℕ → ℕ
-seek k key start l = findRow k 32 (λ r. eqb (lowNumber 8 r) key) start l
 
 -- b without the row that has this key, of the k rows from `start` on
 unfoldable removeFrom : ℕ → ℕ → ℕ → List ℕ → List ℕ
 removeFrom start k key b =
     let at = seek k key start (drop start b) in
     cond (eqb at 0) b (splice (start + k * 32 - 32) (zeros 32) (movedDown 32 (at + 32) (start + k * 32) b))
-
-seek-none : (k key start : ℕ) (l : List ℕ) → lowNumber 8 l ≡ 0 → seek k key start l ≡ 0
-unfolding findRow
-seek-none zero key start l z = refl
-seek-none (suc k) key start l z = rw (eq-eqb (lowNumber 8 l) 0 z)
 
 remove-none : (h : List ℕ) (m k n key : ℕ) → length h ≡ m
     → removeFrom m k key (h ++ table n sessionRow []) ≡ h ++ table n sessionRow []
@@ -50,23 +42,17 @@ module _ (h : List ℕ) (m k n key : ℕ) (y : Session) (ys : List Session)
   abbrev whole : List ℕ
   whole = h ++ table n sessionRow (y ∷ ys)
 
-  empty : keyOf y ≡ 0 → ⊥
-  empty z = omega arith
-
   -- its row is the first
   remove-first : 1 ≤ m → keyOf y ≡ key → length ys ≤ k → k * 32 + 32 ≤ n
       → removeFrom m (suc k) key whole ≡ h ++ table n sessionRow ys
-  unfolding removeFrom findRow
+  unfolding removeFrom
   remove-first start same few fit =
-      let t : List ℕ = table n sessionRow (y ∷ ys) in
       let r : List ℕ = table (n - 32) sessionRow ys in
-      let p : seek (suc k) key m (drop m (h ++ t)) ≡ m
-      = rw (drop-at h t m long, first-key n y ys f, ne-eqb (keyOf y) 0 empty, eq-eqb (keyOf y) key same) in
       let u : m + suc k * 32 - 32 ≡ m + k * 32 = omega arith in
       let v : m + suc k * 32 ≡ m + (32 + k * 32) = omega arith in
       let w : k * 32 ≤ length r = omega (arith, table-long (n - 32) ys (omega arith)) in
       rw (
-        p,
+        seek-first h m k n key y ys long f some same,
         ne-eqb m 0 (λ z. omega arith),
         u,
         v,
@@ -77,20 +63,10 @@ module _ (h : List ℕ) (m k n key : ℕ) (y : Session) (ys : List Session)
 
   -- its row is further on
   remove-later : (keyOf y ≡ key → ⊥) → removeFrom m (suc k) key whole ≡ removeFrom (m + 32) k key whole
-  unfolding removeFrom findRow
+  unfolding removeFrom
   remove-later other =
-      let t : List ℕ = table n sessionRow (y ∷ ys) in
       let w : m + suc k * 32 ≡ m + 32 + k * 32 = omega arith in
-      let p : seek (suc k) key m (drop m (h ++ t)) ≡ seek k key (m + 32) (drop (m + 32) (h ++ t))
-      = rw (
-        drop-at h t m long,
-        past-drop h m n y ys long,
-        first-key n y ys f,
-        ne-eqb (keyOf y) 0 empty,
-        ne-eqb (keyOf y) key other,
-        behind-first n y ys,
-      ) in
-      rw (p, w)
+      rw (seek-later h m k n key y ys long f some other, w)
 
 remove-from : (h : List ℕ) (m k n last key : ℕ) (xs : List Session) → length h ≡ m → 1 ≤ m → k * 32 ≤ n
     → ascends keyOf last xs ≡ true → Each SessionFits xs → length xs ≤ k
@@ -115,5 +91,5 @@ remove-from h m (suc k) n last key (y ∷ ys) long start fit a f few =
 -- Behind a head of 1,536 octets.
 pub removed-table : (h : List ℕ) (key : ℕ) (xs : List Session) → length h ≡ 1536 → Tabled xs
     → sessionRemoved key (h ++ table 2560 sessionRow xs) ≡ h ++ table 2560 sessionRow (without keyOf key xs)
-unfolding sessionRemoved sessionAt removeFrom
+unfolding sessionRemoved rowRemoved sessionAt removeFrom
 removed-table h key xs long t = remove-from h 1536 16 2560 0 key xs long (omega arith) (omega arith) (t .order) (t .fit) (t .few)

@@ -1,52 +1,87 @@
--- One session put in its place, or taken out: what each way through the code makes.
-use mathlib.Core.Path.{_≡_, sym, _∙_}
-use mathlib.Core.List.{List}
+-- A session's row written; one session put in its place, or taken out: what each way through the code makes.
+use mathlib.Core.Path.{_≡_, refl, sym, ap, _∙_}
+use mathlib.Core.List.{List, _++_}
 use Prim.Native.Nat.{ℕ, _+_, _<_, _≤_}
 use native.Mathlib.Omega.{arith}
-use lib.ListN.{drop, replicate}
+use lib.ListN.{length, getD, take, drop, replicate, length-drop, take-append-drop}
+use lib.Seq.{getD-drop, length-take-le}
 use borrow.Author.Tests.{eq-eqb, ne-eqb, le-ltb, lt-ltb}
-use Rattle.octets.specs.Octets.{lowNumber, splice, movedDown}
+use Rattle.octets.specs.Octets.{lowOctets, splice, movedUp, movedDown}
+use Rattle.octets.proofs.LowLaws.{low-octets-length, octets-low}
+use Rattle.octets.proofs.Over.{then-splice}
 use Rattle.machine.specs.declared.Session.{Session}
 use Rattle.machine.specs.Machine.{keyOf}
-use Rattle.state.specs.Image.{zeros}
+use Rattle.state.specs.Image.{zeros, sessionRow}
 use Rattle.state.specs.Rows.{sessionAt}
-use Rattle.store.specs.Stored.{placeOf, rowPut, rowInserted, sessionPut, sessionRemoved}
+use Rattle.state.proofs.Inside.{session-fits, session-keyed}
+use Rattle.store.specs.Stored.{placeOf, rowPut, rowInserted, sessionInserted, sessionPut, rowRemoved}
 use Rattle.store.proofs.PlaceLaws.{place-room}
 
--- ---- a session is put; `at` is the place of its key
+-- ---- a row is written: its key, then what stands behind that
+
+row-parts : (x : Session) → lowOctets 8 (keyOf x) ++ drop 8 (sessionRow x) ≡ sessionRow x
+unfolding sessionRow lowOctets
+row-parts x = refl
+
+pub row-written : (at : ℕ) (x : Session) (b : List ℕ) {c d : List ℕ} → at + 32 ≤ length b
+    → c ≡ splice at (lowOctets 8 (keyOf x)) b → d ≡ splice (at + 8) (drop 8 (sessionRow x)) c → d ≡ rowPut at x b
+unfolding rowPut
+row-written at x b fits ec ed =
+    let k : List ℕ = lowOctets 8 (keyOf x) in
+    let e : at + 8 ≡ at + length k = rw low-octets-length in
+    then-splice at (at + 8) k (drop 8 (sessionRow x)) b ec ed e (omega arith)
+    ∙ ap (λ (w : List ℕ). splice at w b) (row-parts x)
+
+-- ---- a session is put; `row` is that of its key, or 0
+
+module _ (row : ℕ) (x : Session) (b : List ℕ) (er : row ≡ sessionAt (keyOf x) b) where
+  pub put-new : {c : List ℕ} → row ≡ 0 → c ≡ sessionInserted x b → c ≡ sessionPut x b
+  unfolding sessionPut
+  put-new e put = rw (← er, eq-eqb row 0 e) put
+
+  module _ (octets : (i : ℕ) → getD b i 0 < 256) (long : length b ≡ 4096) (more : row ≡ 0 → ⊥) where
+    -- the row has the octets of the key
+    key-there : b ≡ splice row (lowOctets 8 (keyOf x)) b
+    key-there =
+        let r : List ℕ = drop row b in
+        let fits : 8 ≤ length r = omega (arith, length-drop row b, session-fits b (keyOf x) er) in
+        let k : lowOctets 8 (keyOf x) ≡ take 8 r
+        = rw (← session-keyed b (keyOf x) er more) (octets-low 8 r (λ i. rw getD-drop (octets (row + i))) fits) in
+        rw (k, length-take-le 8 r fits, take-append-drop 8 r, take-append-drop row b)
+
+    pub put-there : {c : List ℕ} → c ≡ splice (row + 8) (drop 8 (sessionRow x)) b → c ≡ sessionPut x b
+    unfolding sessionPut
+    put-there ec =
+        let fits : row + 32 ≤ length b = omega (arith, session-fits b (keyOf x) er) in
+        rw (← er, ne-eqb row 0 more) (row-written row x b fits key-there ec)
+
+-- ---- a session is put in; `at` is the place of its key
 
 module _ (x : Session) (b : List ℕ) (at key : ℕ) (ek : key ≡ keyOf x) (ea : at ≡ placeOf key b) where
   place : placeOf (keyOf x) b ≡ at
   place = rw (← ek) (sym ea)
 
-  pub put-full : 2048 ≤ at → b ≡ sessionPut x b
-  unfolding sessionPut
-  put-full h = rw (place, le-ltb at 2048 h)
+  pub inserted-none : 2048 ≤ at → b ≡ sessionInserted x b
+  unfolding sessionInserted
+  inserted-none h = rw (place, le-ltb at 2048 h)
 
   module _ (h : at < 2048) where
-    pub put-room : at ≤ 2016
+    pub inserted-fits : at ≤ 2016
     unfolding placeOf
-    put-room = omega (arith, place-room 16 key 1536 (drop 1536 b) (rw (← ea) h), ea)
+    inserted-fits = omega (arith, place-room 16 key 1536 (drop 1536 b) (rw (← ea) h), ea)
 
-    module _ (c : List ℕ) (k : ℕ) (read : k ≡ lowNumber 8 (drop at b)) where
-      pub put-same : k ≡ key → c ≡ rowPut at x b → c ≡ sessionPut x b
-      unfolding sessionPut
-      put-same e put =
-          rw (place, lt-ltb at 2048 h, eq-eqb (lowNumber 8 (drop at b)) (keyOf x) (sym read ∙ e ∙ ek)) put
+    pub inserted-there : {c d : List ℕ} → c ≡ movedUp 32 at 2016 b → d ≡ rowPut at x c → d ≡ sessionInserted x b
+    unfolding sessionInserted rowInserted
+    inserted-there ec ed = rw (place, lt-ltb at 2048 h, ← ec) ed
 
-      pub put-new : (k ≡ key → ⊥) → c ≡ rowInserted at x b → c ≡ sessionPut x b
-      unfolding sessionPut
-      put-new n put =
-          rw (place, lt-ltb at 2048 h, ne-eqb (lowNumber 8 (drop at b)) (keyOf x) (λ z. n (read ∙ z ∙ sym ek))) put
+-- ---- the session of a row is taken out
 
--- ---- a session is taken out
+module _ (row : ℕ) (b : List ℕ) where
+  pub removed-none : row ≡ 0 → b ≡ rowRemoved row b
+  unfolding rowRemoved
+  removed-none e = rw (eq-eqb row 0 e)
 
-module _ (key : ℕ) (b : List ℕ) (at : ℕ) (ea : at ≡ sessionAt key b) where
-  pub removed-none : at ≡ 0 → b ≡ sessionRemoved key b
-  unfolding sessionRemoved
-  removed-none e = simp (eq-eqb (sessionAt key b) 0 (sym ea ∙ e))
-
-  pub removed-here : (c d : List ℕ) → (at ≡ 0 → ⊥) → c ≡ movedDown 32 (at + 32) 2048 b → d ≡ splice 2016 (replicate 32 0) c
-      → d ≡ sessionRemoved key b
-  unfolding sessionRemoved zeros
-  removed-here c d more ec ed = rw (ed, ec, ← ea, ne-eqb at 0 more)
+  pub removed-there : {c d : List ℕ} → (row ≡ 0 → ⊥) → c ≡ movedDown 32 (row + 32) 2048 b → d ≡ splice 2016 (replicate 32 0) c
+      → d ≡ rowRemoved row b
+  unfolding rowRemoved zeros
+  removed-there more ec ed = rw (ed, ec, ne-eqb row 0 more)

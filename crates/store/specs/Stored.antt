@@ -36,17 +36,21 @@ rowPut at x b = splice at (sessionRow x) b
 unfoldable pub rowInserted : ℕ → Session → List ℕ → List ℕ
 rowInserted at x b = rowPut at x (movedUp 32 at 2016 b)
 
--- b with a session in the row that has its key, or put in where its key belongs; without a sixteenth place to put it, b
-unfoldable pub sessionPut : Session → List ℕ → List ℕ
-sessionPut x b =
-    let at = placeOf (keyOf x) b in
-    cond (ltb at 2048) (cond (eqb (lowNumber 8 (drop at b)) (keyOf x)) (rowPut at x b) (rowInserted at x b)) b
+-- b with a session put in where its key belongs; without a sixteenth place to put it, b
+unfoldable pub sessionInserted : Session → List ℕ → List ℕ
+sessionInserted x b = let at = placeOf (keyOf x) b in cond (ltb at 2048) (rowInserted at x b) b
 
--- b without the row that has this key, the rows behind it one place nearer
+-- b with a session in the row that has its key, or put in where its key belongs
+unfoldable pub sessionPut : Session → List ℕ → List ℕ
+sessionPut x b = let row = sessionAt (keyOf x) b in cond (eqb row 0) (sessionInserted x b) (rowPut row x b)
+
+-- b without this row, the rows behind it one place nearer; without row 0, b
+unfoldable pub rowRemoved : ℕ → List ℕ → List ℕ
+rowRemoved row b = cond (eqb row 0) b (splice 2016 (zeros 32) (movedDown 32 (row + 32) 2048 b))
+
+-- b without the row that has this key
 unfoldable pub sessionRemoved : ℕ → List ℕ → List ℕ
-sessionRemoved key b =
-    let at = sessionAt key b in
-    cond (eqb at 0) b (splice 2016 (zeros 32) (movedDown 32 (at + 32) 2048 b))
+sessionRemoved key b = rowRemoved (sessionAt key b) b
 
 -- b without any session
 unfoldable pub sessionsCleared : List ℕ → List ℕ

@@ -10,7 +10,8 @@ use lib.ListN.{length, take, drop, length-append, length-drop, take-append-drop}
 use lib.Seq.{take-append-seam, drop-at, length-take-le, take-add}
 use borrow.Author.Tests.{ne-eqb, le-leb, eqb-true, eqb-false, leb-true}
 use Rattle.octets.specs.Octets.{number, octets}
-use Rattle.octets.proofs.Round.{Octets, number-octets, number-fits, octets-number}
+use Rattle.octets.proofs.Laws.{Octets}
+use Rattle.octets.proofs.Round.{number-octets, number-fits, octets-number}
 use Rattle.tlvs.specs.Tlv.{Tlv, Parsed, ended, cut, followed, walk, parse, tlvOctets}
 use Rattle.tlvs.specs.Walk.{tlvOf}
 use Rattle.tlvs.specs.Added.{Whole, AllWhole, tlvList}

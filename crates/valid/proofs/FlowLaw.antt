@@ -12,7 +12,7 @@ use Rattle.octets.specs.Octets.{lowNumber, same, allZero}
 use Rattle.octets.specs.Lists.{within, every}
 use Rattle.octets.proofs.Cases.{by-eq}
 use Rattle.octets.proofs.LowLaws.{low-fits}
-use Rattle.octets.proofs.Round.{Octets}
+use Rattle.octets.proofs.Laws.{Octets}
 use Rattle.plan.specs.declared.Flow.{Flow}
 use Rattle.plan.specs.declared.Port.{Port}
 use Rattle.plan.specs.Plan.{Plan, mip, setKey, flowKey, portNumbered, inPlan, goodKind, goodVid, goodPort, goodFlow}

@@ -12,7 +12,7 @@ use lib.Seq.{getD-drop, getD-take, length-take-le}
 use Rattle.octets.specs.Octets.{same}
 use Rattle.octets.specs.Lists.{within, every, count, ascends, distinct}
 use Rattle.octets.proofs.ListLaws.{every-map}
-use Rattle.octets.proofs.Round.{Octets}
+use Rattle.octets.proofs.Laws.{Octets}
 use Rattle.plan.specs.declared.Flow.{Flow}
 use Rattle.plan.specs.Plan.{Plan, flowKey, goodPort, goodFlow, mpCount}
 use Rattle.plan.proofs.Kept.{good-numbers}

@@ -12,7 +12,7 @@ use Rattle.octets.specs.Octets.{lowOctets, allZero, same}
 use Rattle.octets.specs.Lists.{every, ascends}
 use Rattle.octets.proofs.Same.{same-self}
 use Rattle.octets.proofs.LowLaws.{low-fits, octets-low}
-use Rattle.octets.proofs.Round.{Octets}
+use Rattle.octets.proofs.Laws.{Octets}
 use Rattle.machine.specs.Machine.{keyOf}
 use Rattle.plan.specs.Plan.{Plan, keepsRules}
 use Rattle.state.specs.State.{State, valid, onlyFlows, goodSession}

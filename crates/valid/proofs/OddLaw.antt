@@ -11,7 +11,7 @@ use Rattle.octets.specs.Octets.{lowNumber, allZero}
 use Rattle.octets.specs.Lists.{every, count}
 use Rattle.octets.proofs.Cases.{by-eq}
 use Rattle.octets.proofs.LowLaws.{low-zero}
-use Rattle.octets.proofs.Round.{Octets}
+use Rattle.octets.proofs.Laws.{Octets}
 use Rattle.plan.specs.Plan.{mip}
 use Rattle.state.proofs.Cuts.{low-within}
 use Rattle.valid.specs.Pass.{okRows, Seen, oddOf, octetSum, flowFits, flowSeen, flowsRight}

@@ -10,7 +10,7 @@ use borrow.Author.Tests.{le-leb, ltb-true}
 use Rattle.octets.specs.Octets.{lowNumber, same}
 use Rattle.octets.specs.Lists.{every, ascends}
 use Rattle.octets.proofs.Same.{both-true}
-use Rattle.octets.proofs.Round.{Octets}
+use Rattle.octets.proofs.Laws.{Octets}
 use Rattle.plan.specs.declared.Port.{Port}
 use Rattle.plan.specs.Plan.{goodPort}
 use Rattle.state.specs.Image.{portRow, portIn, table, rowsIn}

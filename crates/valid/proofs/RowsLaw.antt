@@ -12,7 +12,7 @@ use lib.Seq.{getD-drop, getD-take}
 use Rattle.octets.specs.Octets.{lowNumber, same, allZero}
 use Rattle.octets.specs.Lists.{every, ascends}
 use Rattle.octets.proofs.Cases.{by-eq, by-le}
-use Rattle.octets.proofs.Round.{Octets}
+use Rattle.octets.proofs.Laws.{Octets}
 use Rattle.state.specs.Image.{zeros, table, rowsIn}
 use Rattle.state.proofs.Cuts.{same-zeros}
 use Rattle.state.proofs.TableLaws.{none-table, rest-table}

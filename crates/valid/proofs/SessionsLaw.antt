@@ -12,7 +12,7 @@ use Rattle.octets.specs.Octets.{lowNumber, same}
 use Rattle.octets.specs.Lists.{within, every, ascends}
 use Rattle.octets.proofs.LowLaws.{low-fits}
 use Rattle.octets.proofs.ListLaws.{eqb-turn, within-low, within-high}
-use Rattle.octets.proofs.Round.{Octets}
+use Rattle.octets.proofs.Laws.{Octets}
 use Rattle.machine.specs.declared.Session.{Session}
 use Rattle.machine.specs.Machine.{keyOf}
 use Rattle.plan.specs.Plan.{Plan, flowNumbered, inPlan}

@@ -9,7 +9,7 @@ use lib.ListN.{length, take, drop}
 use Rattle.octets.specs.Octets.{allZero, same}
 use Rattle.octets.specs.Lists.{within, every, ascends, distinct}
 use Rattle.octets.proofs.Same.{both-true}
-use Rattle.octets.proofs.Round.{Octets}
+use Rattle.octets.proofs.Laws.{Octets}
 use Rattle.machine.specs.Machine.{keyOf}
 use Rattle.plan.specs.Plan.{Plan, soFar, keepsRules, flowKey, mpCount, goodPort, goodFlow}
 use Rattle.plan.proofs.Kept.{good-numbers}

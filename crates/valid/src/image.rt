@@ -5,6 +5,8 @@ use crate::ports::addresses_differ;
 use crate::ports::ports_fit;
 use crate::sessions::sessions_fit;
 use octets::all_zero;
+use octets::low4;
+use octets::low8;
 ghost use mathlib.Core.Path.{_≡_};
 ghost use mathlib.Core.Bool.{_&&_};
 ghost use mathlib.Core.List.{map};
@@ -13,6 +15,23 @@ ghost use Rattle.octets.specs.Octets.{allZero};
 ghost use Rattle.octets.specs.Lists.{distinct};
 ghost use Rattle.state.specs.Image.{portIn, rowsIn, okImage};
 ghost use Rattle.valid.specs.Pass.{okPorts, okFlows};
+
+// Are the octets behind the clock 0? By words: of a run of 28 octets the compiler makes long code.
+fn head_zero(b: &[u8]) -> bool
+    requires { ⌜ length (now b) ≡ 4096 ⌝ }
+    ensures { λ r. ⌜ r ≡ allZero (take 28 (drop 4 (now (b .entry)))) ⌝ }
+{
+    if low4(b, 4) != 0 {
+        return false;
+    }
+    if low8(b, 8) != 0 {
+        return false;
+    }
+    if low8(b, 16) != 0 {
+        return false;
+    }
+    low8(b, 24) == 0
+}
 
 // Are the octets 0 that have no meaning yet, before and behind the flows' marks and before and behind the sessions?
 fn free_zero(b: &[u8]) -> bool
@@ -24,7 +43,7 @@ fn free_zero(b: &[u8]) -> bool
         && allZero (take 2048 (drop 2048 (now (b .entry)))))
         ⌝ }
 {
-    if all_zero(&b[4..32]) {
+    if head_zero(b) {
         if all_zero(&b[96..128]) {
             if all_zero(&b[1280..1536]) {
                 return all_zero(&b[2048..4096]);

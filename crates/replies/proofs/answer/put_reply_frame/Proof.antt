@@ -65,14 +65,17 @@ put-reply-requires c κs =
 
 add-result : tie.Need-add-result
 add-result c =
-    let a : _ = c .before .before .before .before .before .before .before .before .before .before .before .before .before .args in
+    let u : _ = c .before .before .before .before .before .before .before in
+    let t : _ = u .before .before in
+    let s : _ = t .before .before .before .before in
+    let a : _ = s .args in
     let f : List ℕ = now (a .frame) in
-    let room : _ = c .before .before .before .before .before .before .before .before .before .before .before .before .before .pre .1 in
+    let room : _ = s .pre .1 in
     let long : 14 + a .tags ≤ length f = omega arith in
     let left : _ = room-left (a .tags) f long (a .r) (a .count) (a .from) (now (a .out)) (room .1 .0) (room .1 .1) in
     let written : _ =
     frame-written (a .tags) f long (a .r) (a .count) (a .from) (now (a .out)) (room .1 .0) (room .1 .1) _ _
-    (tag-part (a .tags) f long) (pdu-part (a .tags) f long) (c .before .before .before .before .before .before .before .before .before .source-of .ensures .0) (c .before .before .before .before .before .before .before .put-head .ensures)
+    (tag-part (a .tags) f long) (pdu-part (a .tags) f long) (t .source-of .ensures .0) (u .put-head .ensures)
     (c .before .before .put-reply .ensures) in
     omega (arith, left, written .0)
 
@@ -81,12 +84,15 @@ same-length c = search needs
 
 returns : tie.Need-returns
 returns c =
-    let a : _ = c .before .before .before .before .before .before .before .before .before .before .before .before .before .args in
+    let u : _ = c .before .before .before .before .before .before .before in
+    let t : _ = u .before .before in
+    let s : _ = t .before .before .before .before in
+    let a : _ = s .args in
     let f : List ℕ = now (a .frame) in
-    let room : _ = c .before .before .before .before .before .before .before .before .before .before .before .before .before .pre .1 in
+    let room : _ = s .pre .1 in
     let long : 14 + a .tags ≤ length f = omega arith in
     frame-written (a .tags) f long (a .r) (a .count) (a .from) (now (a .out)) (room .1 .0) (room .1 .1) _ _
-    (tag-part (a .tags) f long) (pdu-part (a .tags) f long) (c .before .before .before .before .before .before .before .before .before .source-of .ensures .0) (c .before .before .before .before .before .before .before .put-head .ensures)
+    (tag-part (a .tags) f long) (pdu-part (a .tags) f long) (t .source-of .ensures .0) (u .put-head .ensures)
     (c .before .before .put-reply .ensures)
 
 pub put-reply-frame-spec : {M : Type 1} → statement M

@@ -17,8 +17,11 @@ same-length c = search needs
 
 returns-2 : tie.Need-returns-2
 returns-2 c =
-    let a : _ = c .before .before .before .before .before .before .before .args in
-    in-activate (a .kind) (a .code) (a .seconds) (now (a .out)) (c .before .before .before .before .before .if1 .left) (c .before .before .before .before .if2 .taken) (c .before .before .put-timer .ensures)
+    let u : _ = c .before .before .before .before in
+    let t : _ = u .before in
+    let s : _ = t .before .before in
+    let a : _ = s .args in
+    in-activate (a .kind) (a .code) (a .seconds) (now (a .out)) (t .if1 .left) (u .if2 .taken) (c .before .before .put-timer .ensures)
 
 put-timer-requires-2 : tie.Need-put-timer-requires-2
 put-timer-requires-2 c κs = search needs
@@ -28,8 +31,12 @@ same-length-2 c = search needs
 
 returns-3 : tie.Need-returns-3
 returns-3 c =
-    let a : _ = c .before .before .before .before .before .before .before .before .args in
-    in-state (a .kind) (a .code) (a .seconds) (now (a .out)) (c .before .before .before .before .before .before .if1 .left) (c .before .before .before .before .before .if2 .left) (c .before .before .before .before .if3 .taken) (c .before .before .put-timer2 .ensures)
+    let v : _ = c .before .before .before .before in
+    let u : _ = v .before in
+    let t : _ = u .before in
+    let s : _ = t .before .before in
+    let a : _ = s .args in
+    in-state (a .kind) (a .code) (a .seconds) (now (a .out)) (t .if1 .left) (u .if2 .left) (v .if3 .taken) (c .before .before .put-timer2 .ensures)
 
 returns-4 : tie.Need-returns-4
 returns-4 c =

@@ -21,15 +21,18 @@ enum-told-2 : tie.Need-enum-told-2
 enum-told-2 c = search needs
 
 remove-session-requires : tie.Need-remove-session-requires
-remove-session-requires c κs = ok-length _ (c .before .before .before .before .pre .0)
+remove-session-requires c κs =
+    let p : _ = c .before .before .before .before .pre .0 in
+    (ok-length _ (p .0), p .1)
 
 put-session-requires : tie.Need-put-session-requires
 put-session-requires c κs =
     let p : _ = c .before .before .before .pre in
-    (ok-length _ (p .0), p .1 (c .before .match .x) (keeps-active (keeps (c .before))) .0)
+    let f : _ = p .1 (c .before .match .x) (keeps-active (keeps (c .before))) in
+    (ok-length _ (p .0 .0), (f .source-fits, f .found))
 
 returns : tie.Need-returns
-returns c = same-left _ (c .before .before .before .pre .0) _ (c .enum-told .given .1)
+returns c = λ key er. same-left _ (c .before .before .before .pre .0 .0) key (c .enum-told .given .1)
 
 same-length : tie.Need-same-length
 same-length c = search needs
@@ -37,7 +40,8 @@ same-length c = search needs
 returns-2 : tie.Need-returns-2
 returns-2 c =
     let k : _ = c .before .before .before .before in
-    closed-left _ (k .before .before .before .pre .0) _ (k .enum-told2 .given .1) (c .before .before .remove-session .ensures)
+    λ key er.
+    closed-left _ (k .before .before .before .pre .0 .0) key (k .enum-told2 .given .1) er (c .before .before .remove-session .ensures)
 
 same-length-2 : tie.Need-same-length-2
 same-length-2 c = search needs
@@ -46,8 +50,8 @@ returns-3 : tie.Need-returns-3
 returns-3 c =
     let m : _ = c .before .before .before .before in
     let p : _ = m .before .before .pre in
-    let room : _ = p .1 (m .match .x) (keeps-active (keeps m)) .1 in
-    kept-left _ (p .0) _ _ (c .before .before .put-session .ensures) (room .0) (room .1) (keeps m)
+    let f : _ = p .1 (m .match .x) (keeps-active (keeps m)) in
+    λ key er. kept-left _ (p .0 .0) key _ (c .before .before .put-session .ensures) (f .room) (keeps m)
 
 pub change-session-spec : {M : Type 1} → statement M
 change-session-spec =

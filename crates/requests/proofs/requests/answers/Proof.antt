@@ -1,9 +1,11 @@
 use denote.Ref.{now}
+use native.Mathlib.Omega.{arith}
 use Rattle.codec.specs.declared.Read.{Read}
 use Rattle.codec.specs.FrameSet.{pduOf}
 use Rattle.codec.specs.Request.{copied}
 use Rattle.codec.proofs.Said.{count-right}
-use Rattle.requests.proofs.Decisions.{own-right, change-room, decision-replied}
+use Rattle.state.proofs.Inside.{session-fits}
+use Rattle.requests.proofs.Decisions.{own-right, change-placed, decision-replied}
 use Rattle.requests.proofs.Ways.{reply-room, answers-served}
 use borrow.Author.Needs.{needs}
 use Rattle.requests.proofs.requests.answers.Statement.{statement}
@@ -18,25 +20,27 @@ goes-on-requires c κs = search needs
 own-key-requires : tie.Need-own-key-requires
 own-key-requires c κs = search needs
 
-machine-of-requires : tie.Need-machine-of-requires
-machine-of-requires c κs = search needs
+find-machine-requires : tie.Need-find-machine-requires
+find-machine-requires c κs = search needs
 
 decides-requires : tie.Need-decides-requires
 decides-requires c κs =
     let k : _ = c .before .before .before in
     let s : _ = k .before .before .before .before .before .before .before .before in (
       (search needs, search needs),
-      ((search needs, search needs), (s .pre .1 .0, own-right _ _ (k .own-key .ensures) (c .before .machine-of .ensures))),
+      ((search needs, search needs), (s .pre .1 .0, own-right _ _ (k .own-key .ensures) (c .before .find-machine .ensures .1))),
     )
 
 change-session-requires : tie.Need-change-session-requires
 change-session-requires c κs =
     let r : _ = c .before .before .before .before .before .before .before .before .before in
     let f : _ = r .before .before in
-    let came : _ = f .before .before .pre .0 in (
-      came .ok,
-      change-room came (λ i. f .shared-slice-known .given i .fits) (r .read-behind .result .request)
-          (c .before .decides .ensures),
+    let came : _ = f .before .before .pre .0 in
+    let k : _ = c .before .before .before .before .before .own-key .ensures in
+    let m : _ = c .before .before .before .find-machine .ensures .0 in (
+      (came .ok, omega (arith, session-fits _ _ m)),
+      change-placed came (λ i. f .shared-slice-known .given i .fits) (r .read-behind .result .request)
+          (c .before .decides .ensures) k m,
     )
 
 status-after-requires : tie.Need-status-after-requires
@@ -64,6 +68,7 @@ returns c =
     let t : _ = c .before .before .before in
     let w : _ = t .before .before .before .before in
     let d : _ = w .before .before in
+    let m : _ = d .before .before .find-machine in
     let k : _ = d .before .before .before .before in
     let g : _ = k .before .before in
     let r : _ = g .before .before in
@@ -74,7 +79,7 @@ returns c =
     answers-served (now (a .b)) (a .a) (now (a .frame)) (a .whom) (r .read-behind .ensures) (d .decides .ensures)
     (decision-replied (s .pre .0) (λ i. f .shared-slice-known .given i .fits) (read .request) (d .decides .ensures) (a .whom)
     (g .goes-on .result) (t .status-after .result) (copied (read .copies) (pduOf (a .a .tags) (now (a .frame))))
-    (g .goes-on .ensures) (k .own-key .ensures) (d .before .before .machine-of .ensures) (w .change-session .ensures)
+    (g .goes-on .ensures) (k .own-key .ensures) (m .ensures .1) (w .change-session .ensures _ (m .ensures .0))
     (t .status-after .ensures) (c .before .before .reply .ensures))
 
 pub answers-spec : {M : Type 1} → statement M
@@ -84,7 +89,7 @@ answers-spec =
     read-behind-requires
     goes-on-requires
     own-key-requires
-    machine-of-requires
+    find-machine-requires
     decides-requires
     change-session-requires
     status-after-requires

@@ -1,10 +1,6 @@
-use native.Mathlib.Omega.{arith}
 use denote.Ref.{now}
-use mathlib.Core.Path.{refl}
-use Rattle.codec.specs.Request.{copied}
-use Rattle.calls.proofs.Fits.{notice-length}
-use Rattle.serving.proofs.NoticeLaws.{rest-room, notice-written}
 use borrow.Author.Needs.{needs}
+use Rattle.serving.proofs.NoticeLaws.{notice-written}
 use Rattle.serving.proofs.noticing.put_notice.Statement.{statement}
 use Rattle.serving.proofs.noticing.put_notice.Tie as tie
 
@@ -32,56 +28,32 @@ part-put-head-end c = search needs
 put-head-requires : tie.Need-put-head-requires
 put-head-requires c κs = search needs
 
-status-of-requires : tie.Need-status-of-requires
-status-of-requires c κs = search needs
+sub-put-bare : tie.Need-sub-put-bare
+sub-put-bare c = search needs
 
-sub-put-reply : tie.Need-sub-put-reply
-sub-put-reply c = search needs
+part-put-bare-start : tie.Need-part-put-bare-start
+part-put-bare-start c = search needs
 
-part-put-reply-start : tie.Need-part-put-reply-start
-part-put-reply-start c = search needs
+part-put-bare-end : tie.Need-part-put-bare-end
+part-put-bare-end c = search needs
 
-part-put-reply-end : tie.Need-part-put-reply-end
-part-put-reply-end c = search needs
-
-slice-aggregate-put-reply : tie.Need-slice-aggregate-put-reply
-slice-aggregate-put-reply c = search needs
-
-put-reply-requires : tie.Need-put-reply-requires
-unfolding copied
-put-reply-requires c κs =
-    let h : _ = c .before .before .before .before .before in
-    let t : _ = h .before .before .before .before in
-    let s : _ = t .before .before .before .before in
-    let a : _ = s .args in
-    let room : _ =
-    rest-room (a .port) (a .x) (now (a .out)) (s .pre) (t .before .octets4 .ensures) (t .wide .ensures .0)
-    (h .put-head .ensures) in
-    (s .pre .0, (room, refl))
+put-bare-requires : tie.Need-put-bare-requires
+put-bare-requires c κs = search needs
 
 add-result : tie.Need-add-result
-add-result c =
-    let h : _ = c .before .before .before .before .before .before .before .before in
-    let t : _ = h .before .before .before .before in
-    let s : _ = t .before .before .before .before in
-    let a : _ = s .args in
-    let written : _ =
-    notice-written (a .port) (a .x) (now (a .out)) (s .pre) (t .before .octets4 .ensures) (t .wide .ensures .0)
-    (h .put-head .ensures) (c .before .before .before .before .before .status-of .ensures)
-    (c .before .before .put-reply .ensures) in
-    omega (arith, written .0, s .pre, notice-length (a .port) (a .x))
+add-result c = search needs
 
 same-length : tie.Need-same-length
 same-length c = search needs
 
 returns : tie.Need-returns
 returns c =
-    let h : _ = c .before .before .before .before .before .before .before .before in
+    let h : _ = c .before .before .before .before .before .before in
     let t : _ = h .before .before .before .before in
     let s : _ = t .before .before .before .before in
     let a : _ = s .args in
     notice-written (a .port) (a .x) (now (a .out)) (s .pre) (t .before .octets4 .ensures) (t .wide .ensures .0)
-    (h .put-head .ensures) (c .before .before .before .before .before .status-of .ensures) (c .before .before .put-reply .ensures)
+    (h .put-head .ensures) (c .before .before .put-bare .ensures)
 
 pub put-notice-spec : {M : Type 1} → statement M
 put-notice-spec =
@@ -95,12 +67,10 @@ put-notice-spec =
     part-put-head-start
     part-put-head-end
     put-head-requires
-    status-of-requires
-    sub-put-reply
-    part-put-reply-start
-    part-put-reply-end
-    slice-aggregate-put-reply
-    put-reply-requires
+    sub-put-bare
+    part-put-bare-start
+    part-put-bare-end
+    put-bare-requires
     add-result
     same-length
     returns)

@@ -1,4 +1,5 @@
 use native.Mathlib.Omega.{arith}
+use Rattle.state.proofs.Inside.{session-fits}
 use Rattle.calls.proofs.Fits.{notice-length}
 use Rattle.serving.proofs.OwedLaws.{owed-fits}
 use Rattle.serving.proofs.NoticeLaws.{notice-taken}
@@ -19,24 +20,27 @@ put-notice-requires c κs =
     let f : _ = owed-fits (s .pre) (o .first-owed .ensures) in
     (f .level-fits, (f .count-fits, (f .tag-fits, s .pre .room)))
 
-cast-remove-session : tie.Need-cast-remove-session
-cast-remove-session c = search needs
+cast-session-at : tie.Need-cast-session-at
+cast-session-at c = search needs
 
-mul-remove-session : tie.Need-mul-remove-session
-mul-remove-session c = search needs
+mul-session-at : tie.Need-mul-session-at
+mul-session-at c = search needs
 
-add-remove-session : tie.Need-add-remove-session
-add-remove-session c =
+add-session-at : tie.Need-add-session-at
+add-session-at c =
     let o : _ = c .before .before .before .before .before .before .before .before .before in
     let s : _ = o .before .before .before .before in
     omega (arith, owed-fits (s .pre) (o .first-owed .ensures) .source-fits)
 
-remove-session-requires : tie.Need-remove-session-requires
-remove-session-requires c κs = search needs
+session-at-requires : tie.Need-session-at-requires
+session-at-requires c κs = search needs
 
-cast-t18 : tie.Need-cast-t18
-cast-t18 c =
-    let n : _ = c .before .before .before .before .before .before .before .before in
+remove-session-requires : tie.Need-remove-session-requires
+remove-session-requires c κs = (search needs, omega (arith, session-fits _ _ (c .before .session-at .ensures)))
+
+cast-t21 : tie.Need-cast-t21
+cast-t21 c =
+    let n : _ = c .before .before .before .before .before .before .before .before .before .before in
     let o : _ = n .before .before .before .before in
     let s : _ = o .before .before .before .before in
     let long : _ = notice-length (n .before .before .port-of .result) (o .first-owed .result) in
@@ -50,11 +54,12 @@ same-length-2 c = search needs
 
 returns : tie.Need-returns
 returns c =
-    let n : _ = c .before .before .before .before .before .before .before .before in
+    let r : _ = c .before .before .before .before in
+    let n : _ = r .before .before .before .before .before .before in
     let o : _ = n .before .before .before .before in
     let s : _ = o .before .before .before .before in
     notice-taken _ (s .pre .ok) (o .first-owed .ensures) (n .before .before .port-of .ensures) (n .put-notice .ensures)
-    (c .before .before .remove-session .ensures)
+    (r .session-at .ensures) (c .before .before .remove-session .ensures)
 
 pub take-notice-spec : {M : Type 1} → statement M
 take-notice-spec =
@@ -63,11 +68,12 @@ take-notice-spec =
     first-owed-requires
     port-of-requires
     put-notice-requires
-    cast-remove-session
-    mul-remove-session
-    add-remove-session
+    cast-session-at
+    mul-session-at
+    add-session-at
+    session-at-requires
     remove-session-requires
-    cast-t18
+    cast-t21
     same-length
     same-length-2
     returns)

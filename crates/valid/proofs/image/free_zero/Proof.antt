@@ -2,6 +2,9 @@ use borrow.Author.Needs.{needs}
 use Rattle.valid.proofs.image.free_zero.Statement.{statement}
 use Rattle.valid.proofs.image.free_zero.Tie as tie
 
+head-zero-requires : tie.Need-head-zero-requires
+head-zero-requires c κs = search needs
+
 sub-all-zero : tie.Need-sub-all-zero
 sub-all-zero c = search needs
 
@@ -38,35 +41,23 @@ part-all-zero-end-3 c = search needs
 all-zero-requires-3 : tie.Need-all-zero-requires-3
 all-zero-requires-3 c κs = search needs
 
-sub-all-zero-4 : tie.Need-sub-all-zero-4
-sub-all-zero-4 c = search needs
-
-part-all-zero-start-4 : tie.Need-part-all-zero-start-4
-part-all-zero-start-4 c = search needs
-
-part-all-zero-end-4 : tie.Need-part-all-zero-end-4
-part-all-zero-end-4 c = search needs
-
-all-zero-requires-4 : tie.Need-all-zero-requires-4
-all-zero-requires-4 c κs = search needs
-
 returns : tie.Need-returns
 returns c =
     rw (
-      ← c .before .before .before .before .before .before .before .before .before .all-zero .ensures,
-      ← c .before .before .before .before .before .before .all-zero2 .ensures,
-      ← c .before .before .before .all-zero3 .ensures,
+      ← c .before .before .before .before .before .before .before .before .before .head-zero .ensures,
+      ← c .before .before .before .before .before .before .all-zero .ensures,
+      ← c .before .before .before .all-zero2 .ensures,
       c .before .before .before .before .before .before .before .before .if1 .taken,
       c .before .before .before .before .before .if2 .taken,
       c .before .before .if3 .taken,
-    ) (c .all-zero4 .ensures)
+    ) (c .all-zero3 .ensures)
 
 returns-2 : tie.Need-returns-2
 returns-2 c =
     rw (
-      ← c .before .before .before .before .before .before .before .all-zero .ensures,
-      ← c .before .before .before .before .all-zero2 .ensures,
-      ← c .before .all-zero3 .ensures,
+      ← c .before .before .before .before .before .before .before .head-zero .ensures,
+      ← c .before .before .before .before .all-zero .ensures,
+      ← c .before .all-zero2 .ensures,
       c .before .before .before .before .before .before .if1 .taken,
       c .before .before .before .if2 .taken,
       c .if3 .left,
@@ -75,19 +66,20 @@ returns-2 c =
 returns-3 : tie.Need-returns-3
 returns-3 c =
     rw (
-      ← c .before .before .before .before .all-zero .ensures,
-      ← c .before .all-zero2 .ensures,
+      ← c .before .before .before .before .head-zero .ensures,
+      ← c .before .all-zero .ensures,
       c .before .before .before .if1 .taken,
       c .if2 .left,
     )
 
 returns-4 : tie.Need-returns-4
-returns-4 c = rw (← c .before .all-zero .ensures, c .if1 .left)
+returns-4 c = rw (← c .before .head-zero .ensures, c .if1 .left)
 
 pub free-zero-spec : {M : Type 1} → statement M
 free-zero-spec =
     tie.close
     (tie.spec
+    head-zero-requires
     sub-all-zero
     part-all-zero-start
     part-all-zero-end
@@ -100,10 +92,6 @@ free-zero-spec =
     part-all-zero-start-3
     part-all-zero-end-3
     all-zero-requires-3
-    sub-all-zero-4
-    part-all-zero-start-4
-    part-all-zero-end-4
-    all-zero-requires-4
     returns
     returns-2
     returns-3

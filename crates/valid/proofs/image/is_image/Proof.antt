@@ -1,7 +1,7 @@
 use mathlib.Core.Path.{sym, _∙_}
 use denote.Ref.{now}
 use borrow.Author.Needs.{needs}
-use Rattle.octets.proofs.Round.{Octets}
+use Rattle.octets.proofs.Laws.{Octets}
 use Rattle.valid.proofs.TestLaw.{test-law, short-law}
 use Rattle.valid.proofs.image.is_image.Statement.{statement}
 use Rattle.valid.proofs.image.is_image.Tie as tie
