@@ -4,10 +4,9 @@ use mathlib.Core.Bool.{Bool, true, false, cond, _&&_}
 use mathlib.Core.List.{List}
 use Prim.Native.Nat.{ℕ, _+_, _≤_}
 use lib.ListN.{length, drop}
-use lib.Seq.{getD-drop}
 use Rattle.octets.specs.Octets.{number}
 use Rattle.octets.proofs.Same.{both-true}
-use Rattle.octets.proofs.Laws.{Octets}
+use Rattle.octets.proofs.Laws.{Octets, octets-drop}
 use Rattle.octets.proofs.Round.{number-fits}
 use Rattle.codec.specs.declared.Addressed.{Addressed}
 use Rattle.codec.specs.declared.Addressed.the-variants.{Elsewhere, Unicast, Multicast}
@@ -43,7 +42,7 @@ brings s port side set tags f h o long e there =
     = of-set (s .plan) (port .number) set (valid-parts s h .plan-kept) (p .kind-small) (p .vid-small) there in
     record {
       numbered = q .numbered;
-      source-fits = number-fits 6 (drop 6 f) (λ i. rw getD-drop (o (6 + i)));
+      source-fits = number-fits 6 (drop 6 f) (octets-drop 6 f o);
       unicast = p .unicast;
       fits = rw (q .kind-same, q .vid-same) (tag-fits f (port .kind) e long o);
     }

@@ -5,8 +5,8 @@ use mathlib.Core.List.{List, [], _∷_, _++_}
 use Prim.Native.Nat.{ℕ, _+_, _-_, _*_, _/_, _%_, _≤_}
 use native.Mathlib.Omega.{arith}
 use lib.ListN.{length, take, drop, length-drop, take-append-drop}
-use lib.Seq.{length-take-le, getD-drop}
-use Rattle.octets.proofs.Laws.{Octets}
+use lib.Seq.{length-take-le}
+use Rattle.octets.proofs.Laws.{Octets, octets-drop}
 use Rattle.tlvs.proofs.Short.{good-list, parse-short}
 use Rattle.tlvs.proofs.Walk.{drop-to}
 use Rattle.tlvs.proofs.Written.{Listed, parse-listed}
@@ -85,5 +85,5 @@ request-parts whom to pdu o e h =
     let far : 8 ≤ offsetOf pdu = offset-high pdu (f .offset) in
     let good : tlvsOf pdu .bad ≡ false = good-list (tlvsOf pdu) (f .list) .0 in
     let inside : n ≤ length pdu = omega (arith, parse-short (drop n pdu) good, length-drop n pdu) in
-    let m : Listed (drop n pdu) (tlvsOf pdu .tlvs) = parse-listed (drop n pdu) (λ i. rw getD-drop (o (n + i))) good in
+    let m : Listed (drop n pdu) (tlvsOf pdu .tlvs) = parse-listed (drop n pdu) (octets-drop n pdu o) good in
     by-parts pdu o e far inside m

@@ -5,10 +5,9 @@ use mathlib.Core.List.{List}
 use Prim.Native.Nat.{ℕ, _+_, _≤_}
 use native.Mathlib.Omega.{arith}
 use lib.ListN.{length, drop, length-drop}
-use lib.Seq.{getD-drop}
 use borrow.Author.Tests.{not-false}
 use Rattle.octets.specs.Lists.{within}
-use Rattle.octets.proofs.Laws.{Octets}
+use Rattle.octets.proofs.Laws.{Octets, octets-drop}
 use Rattle.octets.proofs.Round.{octets-number}
 use Rattle.codec.specs.declared.FrameSet.{FrameSet}
 use Rattle.codec.specs.declared.Place.{Place}
@@ -54,7 +53,7 @@ of-flow plan port side set tags f o long e there =
       small = record { kind-small = p .kind-small; vid-small = p .vid-small };
       source-fits = source-fits f o;
       tag-same =
-          octets-number tags (drop 12 f) (λ i. rw getD-drop (o (12 + i)))
+          octets-number tags (drop 12 f) (octets-drop 12 f o)
           (omega (arith, length-drop 12 f, tag-whole f (port .kind) e long));
     }
 

@@ -13,6 +13,9 @@ use Rattle.octets.specs.Octets.{number, octets}
 abbrev pub Octets : List ℕ → Type 0
 Octets l = (i : ℕ) → getD l i 0 < 256
 
+pub octets-drop : (n : ℕ) (l : List ℕ) → Octets l → Octets (drop n l)
+octets-drop n l o i = rw getD-drop (o (n + i))
+
 pub octets-length : (n x : ℕ) → length (octets n x) ≡ n
 unfolding octets
 octets-length zero x = refl

@@ -10,7 +10,7 @@ use borrow.Author.Tests.{eq-eqb, ne-eqb}
 use lib.ListN.{length, getD, take, drop, length-drop, List·getD-append}
 use lib.Seq.{getD-drop, drop-drop, drop-append-le}
 use Rattle.octets.specs.Octets.{lowNumber, lowOctets, allZero}
-use Rattle.octets.proofs.Laws.{Octets, drop-more}
+use Rattle.octets.proofs.Laws.{Octets, octets-drop, drop-more}
 use Rattle.octets.proofs.Cases.{by-eq}
 
 pub low-octets-length : (n x : ℕ) → length (lowOctets n x) ≡ n
@@ -57,7 +57,7 @@ pub low-fits : (n : ℕ) (l : List ℕ) → Octets l → lowNumber n l < 256 ^ n
 unfolding lowNumber
 low-fits zero l o = omega arith
 low-fits (suc n) l o =
-    let f : lowNumber n (drop 1 l) < 256 ^ n = low-fits n (drop 1 l) (λ i. rw getD-drop (o (1 + i))) in
+    let f : lowNumber n (drop 1 l) < 256 ^ n = low-fits n (drop 1 l) (octets-drop 1 l o) in
     let x : getD l 0 0 < 256 = o 0 in
     rw pow-suc (omega arith)
 
@@ -71,6 +71,9 @@ octets-low (suc n) (x ∷ l) o h =
     let low : (x + m * 256) % 256 ≡ x = omega arith in
     let high : (x + m * 256) / 256 ≡ m = omega arith in
     rw (low, high, octets-low n l (λ i. o (suc i)) (omega arith))
+
+pub octets-low-at : (at n : ℕ) (l : List ℕ) → Octets l → at + n ≤ length l → lowOctets n (lowNumber n (drop at l)) ≡ take n (drop at l)
+octets-low-at at n l o h = octets-low n (drop at l) (octets-drop at l o) (omega (arith, length-drop at l))
 
 low-none : (n : ℕ) → lowNumber n [] ≡ 0
 unfolding lowNumber

@@ -6,10 +6,10 @@ use native.Mathlib.Nat.{zero-add, zero-mul, add-assoc, add-mul, mul-assoc, mod-o
 use native.Mathlib.Omega.{arith}
 use lib.Arith.{digits-lt, digits-div, digits-mod, mod-mul}
 use lib.ListN.{length, take, drop, length-drop, take-append-drop}
-use lib.Seq.{getD-drop, take-all, length-take-le}
+use lib.Seq.{take-all, length-take-le}
 use Rattle.octets.specs.Octets.{number, octets, lowNumber, lowOctets}
-use Rattle.octets.proofs.Laws.{Octets, octets-length, octets-small, octets-join, number-on}
-use Rattle.octets.proofs.LowLaws.{octets-low}
+use Rattle.octets.proofs.Laws.{Octets, octets-drop, octets-length, octets-small, octets-join, number-on}
+use Rattle.octets.proofs.LowLaws.{octets-low, octets-low-at}
 
 pow-some : (n : ℕ) → 0 < 256 ^ n
 pow-some n = one-le-pow n 256 (omega arith)
@@ -27,7 +27,7 @@ pub number-fits : (n : ℕ) (l : List ℕ) → Octets l → number n l < 256 ^ n
 unfolding number
 number-fits zero l o = omega arith
 number-fits (suc n) l o =
-    let f : number n (drop 1 l) < 256 ^ n = number-fits n (drop 1 l) (λ i. rw getD-drop (o (1 + i))) in
+    let f : number n (drop 1 l) < 256 ^ n = number-fits n (drop 1 l) (octets-drop 1 l o) in
     rw pow-succ' (digits-lt (o 0) f)
 
 -- whatever stands above the n octets does not show in them
@@ -61,7 +61,7 @@ number-turned n at l o h ex er =
     let long : n ≤ length m = omega (arith, length-drop at l) in
     let w : List ℕ = take n m in
     let front : number n (w ++ drop n m) ≡ number n w = number-on n w (drop n m) (omega (arith, length-take-le n m long)) in
-    rw (er, ex, octets-low n m (λ i. rw getD-drop (o (at + i))) long, ← front, take-append-drop)
+    rw (er, ex, octets-low-at at n l o h, ← front, take-append-drop)
 
 -- a number turned and then written with the lowest octet first: its octets stand in network order; also in two parts
 pub octets-turned : (n x : ℕ) {y : ℕ} → y ≡ lowNumber n (octets n x) → lowOctets n y ≡ octets n x

@@ -5,9 +5,9 @@ use mathlib.Core.List.{List}
 use Prim.Native.Nat.{ℕ, zero, suc, _^_, _<_}
 use native.Mathlib.Omega.{arith}
 use lib.Dec.{eqb}
-use lib.ListN.{getD}
 use borrow.Author.Tests.{eq-eqb, ne-eqb}
 use Rattle.octets.proofs.Cases.{by-eq}
+use Rattle.octets.proofs.Laws.{Octets}
 use Rattle.codec.specs.declared.Status.{Status}
 use Rattle.codec.specs.declared.Addressed.{Addressed}
 use Rattle.codec.specs.declared.Request.{Request}
@@ -90,7 +90,7 @@ module _ (s : State) (x : Arrived) where
       go true = decided-puts s x v quiet fits (eventAt (askedOf request .event)) (askedOf request .seconds)
       go false = tt
 
-module _ {b : List ℕ} {a : Coming} {frame out : List ℕ} (came : Came b a frame out) (octets : (i : ℕ) → getD frame i 0 < 256)
+module _ {b : List ℕ} {a : Coming} {frame out : List ℕ} (came : Came b a frame out) (octets : Octets frame)
     (request : Request) {d : Decided} (ed : d ≡ decision (stateOf b) (arrivedIn b a frame) request) where
   puts : Puts (stateOf b) (arrivedIn b a frame) (d .change)
   unfolding arrivedIn

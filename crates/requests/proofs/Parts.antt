@@ -6,9 +6,9 @@ use native.Mathlib.Nat.{pow-le-pow-right, pow-suc}
 use native.Mathlib.Numerals.{add-one}
 use native.Mathlib.Omega.{arith}
 use lib.ListN.{length, take, drop, getD, length-drop}
-use lib.Seq.{take-all, getD-drop}
+use lib.Seq.{take-all}
 use Rattle.octets.specs.Octets.{number}
-use Rattle.octets.proofs.Laws.{number-parts, number-1}
+use Rattle.octets.proofs.Laws.{Octets, octets-drop, number-parts, number-1}
 use Rattle.octets.proofs.Round.{number-fits}
 use Rattle.codec.specs.FrameSet.{source, pduOf}
 
@@ -18,9 +18,9 @@ unfolding pduOf
 pdu-part tags frame =
     take-all (length frame - (14 + tags)) (drop (14 + tags) frame) (omega (arith, length-drop (14 + tags) frame))
 
-pub source-fits : (frame : List ℕ) → ((i : ℕ) → getD frame i 0 < 256) → source frame < 2 ^ 48
+pub source-fits : (frame : List ℕ) → Octets frame → source frame < 2 ^ 48
 unfolding source
-source-fits frame o = number-fits 6 (drop 6 frame) (λ i. rw getD-drop (o (6 + i)))
+source-fits frame o = number-fits 6 (drop 6 frame) (octets-drop 6 frame o)
 
 -- before octet i, n is the number of those that were met
 pub record Gathering (l : List ℕ) (n i : ℕ) : Type 0 where

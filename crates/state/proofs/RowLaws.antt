@@ -6,10 +6,11 @@ use Prim.Native.Nat.{ℕ, _+_, _^_, _<_, _≤_}
 use native.Mathlib.Omega.{arith}
 use lib.Dec.{eqb}
 use lib.ListN.{length, getD, take, drop, length-append, length-drop}
-use lib.Seq.{drop-drop, getD-drop, take-at}
+use lib.Seq.{drop-drop, take-at}
 use borrow.Author.Tests.{eq-eqb}
 use Rattle.octets.specs.Octets.{lowNumber, lowOctets, allZero, same}
-use Rattle.octets.proofs.LowLaws.{low-octets, octets-low, low-parts, low-1}
+use Rattle.octets.proofs.Laws.{Octets}
+use Rattle.octets.proofs.LowLaws.{low-octets, octets-low-at, low-parts, low-1}
 use Rattle.octets.proofs.ListLaws.{eqb-turn}
 use Rattle.machine.specs.declared.Session.{Session}
 use Rattle.machine.specs.Machine.{key, keyOf}
@@ -116,17 +117,14 @@ pub flow-key-in : (l : List ℕ) → flowKey (flowIn l) ≡ lowNumber 4 (drop 4 
 unfolding flowKey setKey flowIn
 flow-key-in l = omega (arith, low-parts 2 2 4 l refl (low-parts 1 1 6 l (low-1 6 l) (low-1 7 l)))
 
-module _ (l : List ℕ) (o : (i : ℕ) → getD l i 0 < 256) where
-  octets-at : (at n : ℕ) → at + n ≤ length l → lowOctets n (lowNumber n (drop at l)) ≡ take n (drop at l)
-  octets-at at n h = octets-low n (drop at l) (λ i. rw getD-drop (o (at + i))) (omega (arith, length-drop at l))
-
+module _ (l : List ℕ) (o : Octets l) where
   pub port-exact : 16 ≤ length l → same (portRow (portIn l)) (take 16 l) ≡ allZero (take 8 (drop 8 l))
   unfolding portRow portIn
   port-exact h =
       let two : List ℕ = getD l 6 0 ∷ getD l 7 0 ∷ [] in
       let front : take 8 l ≡ take 6 l ++ two
       = rw (take-on 0 6 2 l, take-two 6 0 l (omega arith)) in
-      rw (octets-at 0 6 (omega arith), ← append-assoc (take 6 l) two (zeros 8), ← front) (same-tail 8 8 l h)
+      rw (octets-low-at 0 6 l o (omega arith), ← append-assoc (take 6 l) two (zeros 8), ← front) (same-tail 8 8 l h)
 
   pub session-exact : 32 ≤ length l → same (sessionRow (sessionIn l)) (take 32 l) ≡ allZero (take 8 (drop 24 l))
   unfolding sessionRow sessionIn
@@ -137,9 +135,9 @@ module _ (l : List ℕ) (o : (i : ℕ) → getD l i 0 < 256) where
       let front : take 24 l ≡ take 8 l ++ take 4 (drop 8 l) ++ four = rw (take-on 0 12 12 l, take-on 0 8 4 l, back) in
       rw (
         session-key-in l,
-        octets-at 0 8 (omega arith),
-        octets-at 8 4 (omega arith),
-        octets-at 16 8 (omega arith),
+        octets-low-at 0 8 l o (omega arith),
+        octets-low-at 8 4 l o (omega arith),
+        octets-low-at 16 8 l o (omega arith),
         ← front,
       ) (same-tail 24 8 l h)
 
@@ -156,7 +154,7 @@ module _ (l : List ℕ) (o : (i : ℕ) → getD l i 0 < 256) where
       = rw (take-two 0 30 l (omega arith), take-two 2 28 l (omega arith)) in
       rw (
         four,
-        octets-at 4 2 (omega arith),
+        octets-low-at 4 2 l o (omega arith),
         ← front,
         eq-eqb (getD l 1 0) (getD l 1 0) refl,
         same-tail 12 16 (drop 4 l) long,

@@ -3,11 +3,12 @@ use mathlib.Core.Path.{_≡_, refl, sym, ap, _∙_}
 use mathlib.Core.List.{List, _++_}
 use Prim.Native.Nat.{ℕ, _+_, _<_, _≤_}
 use native.Mathlib.Omega.{arith}
-use lib.ListN.{length, getD, take, drop, replicate, length-drop, take-append-drop}
-use lib.Seq.{getD-drop, length-take-le}
+use lib.ListN.{length, take, drop, replicate, length-drop, take-append-drop}
+use lib.Seq.{length-take-le}
 use borrow.Author.Tests.{eq-eqb, ne-eqb, le-ltb, lt-ltb}
 use Rattle.octets.specs.Octets.{lowOctets, splice, movedUp, movedDown}
-use Rattle.octets.proofs.LowLaws.{low-octets-length, octets-low}
+use Rattle.octets.proofs.Laws.{Octets}
+use Rattle.octets.proofs.LowLaws.{low-octets-length, octets-low-at}
 use Rattle.octets.proofs.Over.{then-splice}
 use Rattle.machine.specs.declared.Session.{Session}
 use Rattle.machine.specs.Machine.{keyOf}
@@ -39,14 +40,14 @@ module _ (row : ℕ) (x : Session) (b : List ℕ) (er : row ≡ sessionAt (keyOf
   unfolding sessionPut
   put-new e put = rw (← er, eq-eqb row 0 e) put
 
-  module _ (octets : (i : ℕ) → getD b i 0 < 256) (long : length b ≡ 4096) (more : row ≡ 0 → ⊥) where
+  module _ (octets : Octets b) (long : length b ≡ 4096) (more : row ≡ 0 → ⊥) where
     -- the row has the octets of the key
     key-there : b ≡ splice row (lowOctets 8 (keyOf x)) b
     key-there =
         let r : List ℕ = drop row b in
         let fits : 8 ≤ length r = omega (arith, length-drop row b, session-fits b (keyOf x) er) in
         let k : lowOctets 8 (keyOf x) ≡ take 8 r
-        = rw (← session-keyed b (keyOf x) er more) (octets-low 8 r (λ i. rw getD-drop (octets (row + i))) fits) in
+        = rw (← session-keyed b (keyOf x) er more) (octets-low-at row 8 b octets (omega (arith, fits, length-drop row b))) in
         rw (k, length-take-le 8 r fits, take-append-drop 8 r, take-append-drop row b)
 
     pub put-there : {c : List ℕ} → c ≡ splice (row + 8) (drop 8 (sessionRow x)) b → c ≡ sessionPut x b

@@ -7,11 +7,12 @@ use native.Mathlib.Nat.{mod-eq-of-lt}
 use native.Mathlib.Omega.{arith}
 use lib.Bits.{bitAnd, and-block, and-high, and-le-l}
 use lib.Dec.{eqb, leb}
-use lib.ListN.{length, getD}
+use lib.ListN.{length}
 use borrow.Author.Tests.{eq-eqb, ne-eqb}
 use Rattle.octets.specs.Octets.{lowNumber}
 use Rattle.octets.specs.Lists.{every}
 use Rattle.octets.proofs.Cases.{by-le}
+use Rattle.octets.proofs.Laws.{Octets}
 use Rattle.octets.proofs.LowLaws.{sum-zero}
 
 -- n octets c
@@ -35,7 +36,7 @@ odd-octet x h =
     (λ t low. rw (t, e) (eq-eqb (x / 4 * 4) 0 (omega arith)))
     (λ t high. rw (t, e) (ne-eqb (x / 4 * 4) 0 (λ z. absurd (omega arith))))
 
-pub odd-none : (l : List ℕ) → ((i : ℕ) → getD l i 0 < 256)
+pub odd-none : (l : List ℕ) → Octets l
     → eqb (bitAnd (lowNumber (length l) l) (mask (length l) 252)) 0 ≡ every (λ x. leb x 3) l
 unfolding mask lowNumber every
 odd-none [] o = refl

@@ -12,7 +12,7 @@ use Rattle.octets.specs.Octets.{lowNumber, same, allZero}
 use Rattle.octets.specs.Lists.{within, every}
 use Rattle.octets.proofs.Cases.{by-eq}
 use Rattle.octets.proofs.LowLaws.{low-fits}
-use Rattle.octets.proofs.Laws.{Octets}
+use Rattle.octets.proofs.Laws.{Octets, octets-drop}
 use Rattle.plan.specs.declared.Flow.{Flow}
 use Rattle.plan.specs.declared.Port.{Port}
 use Rattle.plan.specs.Plan.{Plan, mip, setKey, flowKey, portNumbered, inPlan, goodKind, goodVid, goodPort, goodFlow}
@@ -22,7 +22,6 @@ use Rattle.state.proofs.RowLaws.{flow-key-in, flow-exact, flow-length}
 use Rattle.valid.specs.Pass.{Seen, marksOf, placeFits, flowFits, flowSeen}
 use Rattle.valid.proofs.Tests.{and-left-comm}
 use Rattle.octets.proofs.LowLaws.{sum-zero}
-use Rattle.valid.proofs.RowsLaw.{octets-drop}
 use Rattle.valid.proofs.OddLaw.{even, evenFits, evenSeen, odd-row}
 use Rattle.valid.proofs.SetLaw.{set-law}
 

@@ -11,7 +11,7 @@ use Rattle.octets.specs.Octets.{lowNumber, allZero}
 use Rattle.octets.specs.Lists.{every, count}
 use Rattle.octets.proofs.Cases.{by-eq}
 use Rattle.octets.proofs.LowLaws.{low-zero}
-use Rattle.octets.proofs.Laws.{Octets}
+use Rattle.octets.proofs.Laws.{Octets, octets-drop}
 use Rattle.plan.specs.Plan.{mip}
 use Rattle.state.proofs.Cuts.{low-within}
 use Rattle.valid.specs.Pass.{okRows, Seen, oddOf, octetSum, flowFits, flowSeen, flowsRight}
@@ -19,7 +19,7 @@ use Rattle.valid.proofs.Tests.{and-left-comm}
 use Rattle.valid.proofs.ZeroLaws.{zero-parts}
 use Rattle.octets.proofs.Zero.{or-eqb}
 use Rattle.valid.proofs.BitLaws.{mask, odd-none}
-use Rattle.valid.proofs.RowsLaw.{octets-drop, octets-take}
+use Rattle.valid.proofs.RowsLaw.{octets-take}
 
 -- what is known without what is odd
 unfoldable pub even : Seen → Seen

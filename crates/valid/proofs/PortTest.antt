@@ -9,6 +9,7 @@ use lib.ListN.{getD, drop}
 use borrow.Author.Tests.{le-ltb, lt-ltb, le-leb}
 use Rattle.octets.specs.Octets.{lowNumber}
 use Rattle.octets.proofs.Cases.{by-eq}
+use Rattle.octets.proofs.Laws.{Octets}
 use Rattle.octets.proofs.LowLaws.{low-zero, low-fits}
 use Rattle.plan.specs.declared.Port.{Port}
 use Rattle.plan.specs.Plan.{goodPort}
@@ -24,7 +25,7 @@ module _ (last : ℕ) (l : List ℕ) {p : Port} (read : p ≡ portIn l) where
   unfolding portFits portIn
   port-low h = rw (le-ltb last (getD l 7 0) (rw read at h))
 
-  pub port-address : ((i : ℕ) → getD l i 0 < 256) → p .address < 2 ^ 48
+  pub port-address : Octets l → p .address < 2 ^ 48
   unfolding portIn
   port-address o = rw read (low-fits 6 l o)
 

@@ -8,11 +8,11 @@ use native.Mathlib.Omega.{arith}
 use native.Mathlib.Nat.{suc-mul}
 use lib.Dec.{ltb}
 use lib.ListN.{length, take, drop, length-take, length-drop, List·getD-eq-default}
-use lib.Seq.{getD-drop, getD-take}
+use lib.Seq.{getD-take}
 use Rattle.octets.specs.Octets.{lowNumber, same, allZero}
 use Rattle.octets.specs.Lists.{every, ascends}
 use Rattle.octets.proofs.Cases.{by-eq, by-le}
-use Rattle.octets.proofs.Laws.{Octets}
+use Rattle.octets.proofs.Laws.{Octets, octets-drop}
 use Rattle.state.specs.Image.{zeros, table, rowsIn}
 use Rattle.state.proofs.Cuts.{same-zeros}
 use Rattle.state.proofs.TableLaws.{none-table, rest-table}
@@ -24,9 +24,6 @@ module _ {A S : Type 0} (fits : S → A → Bool) (next : S → A → S) (right 
   unfoldable pub passes : S → List A → Bool
   passes s [] = right s
   passes s (x ∷ xs) = fits s x && passes (next s x) xs
-
-pub octets-drop : (n : ℕ) (l : List ℕ) → Octets l → Octets (drop n l)
-octets-drop n l o i = rw getD-drop (o (n + i))
 
 pub octets-take : (n : ℕ) (l : List ℕ) → Octets l → Octets (take n l)
 octets-take n l o i =

@@ -9,7 +9,7 @@ use lib.ListN.{length, take, drop}
 use Rattle.octets.specs.Octets.{allZero, same}
 use Rattle.octets.specs.Lists.{within, every, ascends, distinct}
 use Rattle.octets.proofs.Same.{both-true}
-use Rattle.octets.proofs.Laws.{Octets}
+use Rattle.octets.proofs.Laws.{Octets, octets-drop}
 use Rattle.machine.specs.Machine.{keyOf}
 use Rattle.plan.specs.Plan.{Plan, soFar, keepsRules, flowKey, mpCount, goodPort, goodFlow}
 use Rattle.plan.proofs.Kept.{good-numbers}
@@ -18,7 +18,7 @@ use Rattle.state.specs.Image.{portRow, flowRow, sessionRow, table, rowsIn, plac
 use Rattle.state.proofs.ImageLaws.{ok-length}
 use Rattle.valid.specs.Pass.{okPorts, okFlows, okAllowed, okSessions}
 use Rattle.valid.proofs.Tests.{and-left-comm, and-when}
-use Rattle.valid.proofs.RowsLaw.{octets-drop, octets-take}
+use Rattle.valid.proofs.RowsLaw.{octets-take}
 use Rattle.valid.proofs.PortsLaw.{ports-law}
 use Rattle.valid.proofs.FlowsLaw.{flows-law}
 use Rattle.valid.proofs.AllowedLaw.{allowed-law}

@@ -27,7 +27,9 @@ returns-2 : tie.Need-returns-2
 returns-2 c =
     let a : _ = c .before .before .before .before .before .before .args in
     let pdu : _ = now (a .pdu) in
-    c .malformed2 .ensures ∙ bad-offset (a .whom) (a .to) pdu (sym (c .before .before .before .before .wrong-mac .ensures) ∙ c .before .before .before .if1 .left) (sym (c .before .before .wrong-offset .ensures) ∙ c .before .if2 .taken)
+    let mac : _ = sym (c .before .before .before .before .wrong-mac .ensures) ∙ c .before .before .before .if1 .left in
+    c .malformed2 .ensures
+    ∙ bad-offset (a .whom) (a .to) pdu mac (sym (c .before .before .wrong-offset .ensures) ∙ c .before .if2 .taken)
 
 first-tlv-requires : tie.Need-first-tlv-requires
 first-tlv-requires c κs = search needs
@@ -43,8 +45,11 @@ returns-3 c =
     let a : _ = c .before .before .before .before .before .before .before .before .before .args in
     let pdu : _ = now (a .pdu) in
     let bad : _ = says-bad (a .whom) (a .to) pdu _ _ (c .before .before .before .first-tlv .ensures .0) (c .before .before .summary-of .ensures) in
+    let o : _ = c .before .before .before .before in
+    let mac : _ = sym (o .before .before .before .wrong-mac .ensures) ∙ o .before .before .if1 .left in
+    let offset : _ = sym (o .before .wrong-offset .ensures) ∙ o .if2 .left in
     c .malformed3 .ensures
-    ∙ bad-list (a .whom) (a .to) pdu (sym (c .before .before .before .before .before .before .before .wrong-mac .ensures) ∙ c .before .before .before .before .before .before .if1 .left) (sym (c .before .before .before .before .before .wrong-offset .ensures) ∙ c .before .before .before .before .if2 .left) (sym bad ∙ c .before .if3 .taken)
+    ∙ bad-list (a .whom) (a .to) pdu mac offset (sym bad ∙ c .before .if3 .taken)
 
 type-of-requires : tie.Need-type-of-requires
 type-of-requires c κs = search needs
@@ -64,8 +69,9 @@ returns-4 c =
     let ek : _ = c .before .before .before .type-of .ensures in
     let fine : _ = sym (says-bad (a .whom) (a .to) pdu _ _ ef es) ∙ c .before .before .before .before .if3 .left in
     let timed : _ = says-untimed (a .whom) (a .to) pdu _ _ ef es _ ek fine in
-    let mac : _ = sym (c .before .before .before .before .before .before .before .before .before .before .wrong-mac .ensures) ∙ c .before .before .before .before .before .before .before .before .before .if1 .left in
-    let offset : _ = sym (c .before .before .before .before .before .before .before .before .wrong-offset .ensures) ∙ c .before .before .before .before .before .before .before .if2 .left in
+    let o : _ = c .before .before .before .before .before .before .before in
+    let mac : _ = sym (o .before .before .before .wrong-mac .ensures) ∙ o .before .before .if1 .left in
+    let offset : _ = sym (o .before .wrong-offset .ensures) ∙ o .if2 .left in
     c .malformed4 .ensures
     ∙ bad-untimed (a .whom) (a .to) pdu _ _ ef es _ ek fine mac offset (sym timed ∙ (sym (c .before .before .untimed .ensures) ∙ c .before .if4 .taken))
 
@@ -81,8 +87,9 @@ returns-5 c =
     let ek : _ = c .before .before .before .type-of .ensures in
     let fine : _ = sym (says-bad (a .whom) (a .to) pdu _ _ ef es) ∙ c .before .before .before .before .if3 .left in
     let timed : _ = says-untimed (a .whom) (a .to) pdu _ _ ef es _ ek fine in
-    let mac : _ = sym (c .before .before .before .before .before .before .before .before .before .before .wrong-mac .ensures) ∙ c .before .before .before .before .before .before .before .before .before .if1 .left in
-    let offset : _ = sym (c .before .before .before .before .before .before .before .before .wrong-offset .ensures) ∙ c .before .before .before .before .before .before .before .if2 .left in
+    let o : _ = c .before .before .before .before .before .before .before in
+    let mac : _ = sym (o .before .before .before .wrong-mac .ensures) ∙ o .before .before .if1 .left in
+    let offset : _ = sym (o .before .wrong-offset .ensures) ∙ o .if2 .left in
     good (a .whom) (a .to) pdu _ _ ef es _ ek fine mac offset (sym timed ∙ (sym (c .before .before .untimed .ensures) ∙ c .before .if4 .left)) _ (c .by-type .ensures)
 
 pub read-request-spec : {M : Type 1} → statement M

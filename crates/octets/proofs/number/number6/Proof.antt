@@ -3,9 +3,8 @@ use mathlib.Core.List.{List}
 use Prim.Native.Nat.{ℕ, _+_, _<_}
 use native.Mathlib.Omega.{arith}
 use denote.Ref.{now}
-use lib.ListN.{getD}
 use Rattle.octets.specs.Octets.{number, lowOctets}
-use Rattle.octets.proofs.Laws.{number-parts}
+use Rattle.octets.proofs.Laws.{Octets, number-parts}
 use Rattle.octets.proofs.Round.{number-turned}
 use borrow.Author.Needs.{needs}
 use Rattle.octets.proofs.number.number6.Statement.{statement}
@@ -44,7 +43,7 @@ returns c =
     let h : _ = c .before .before .before .before in
     let a : _ = h .before .before .before .args in
     let s : List ℕ = now (a .s) in
-    let o : (i : ℕ) → getD s i 0 < 256 = λ i. h .before .before .shared-slice-known .given i .fits in
+    let o : Octets s = λ i. h .before .before .shared-slice-known .given i .fits in
     let one : _ = number-turned 2 (a .at) s o (omega arith) (h .before .low-pair .ensures .0) (h .swapped2 .ensures .0) in
     let two : _ = number-turned 4 (a .at + 2) s o (omega arith) (c .before .before .low4 .ensures) (c .before .swapped4 .ensures .0) in
     let whole : _ = number-parts 2 4 (a .at) s (c .before .before .before .wider .ensures .0 ∙ one) (c .wider2 .ensures .0 ∙ two) in
