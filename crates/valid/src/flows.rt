@@ -129,7 +129,7 @@ pub fn flows_fit(b: &[u8], t: &[u8]) -> bool
         let at = i * 32;
         if low8(t, at) == 0 {
             if marks_fit(b, odd, marks, i) {
-                return rest_zero(t, at);
+                return rest_zero(t, at, 256);
             }
             return false;
         }

@@ -1,5 +1,5 @@
 // The ports' rows of an image: are they right?
-use crate::rest::rows_zero;
+use crate::rest::rest_zero;
 use codec::is_group;
 use octets::low6;
 use octets::low8;
@@ -69,7 +69,7 @@ pub fn ports_fit(t: &[u8]) -> bool
             if last == 0 {
                 return false;
             }
-            return rows_zero(t, i);
+            return rest_zero(t, at, 64);
         }
         if port_fits(t, at, last) {
             last = t[at + 7];

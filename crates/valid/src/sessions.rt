@@ -139,7 +139,7 @@ pub fn sessions_fit(b: &[u8], t: &[u8]) -> bool
         let at = i * 32;
         let key = low8(t, at);
         if key == 0 {
-            return rest_zero(t, at);
+            return rest_zero(t, at, 256);
         }
         if session_fits(b, t, at, last) {
             last = key;

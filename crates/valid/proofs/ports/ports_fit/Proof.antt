@@ -34,14 +34,14 @@ returns c =
     let l : _ = c .before .before .before .before .loop in
     rw (c .if2 .taken) at (ok-end (l .inv) (omega arith) (c .before .before .low8 .ensures) (c .before .if1 .taken))
 
-rows-zero-requires : tie.Need-rows-zero-requires Inv-loop μ-loop
-rows-zero-requires c κs = (omega arith, omega arith)
+rest-zero-requires : tie.Need-rest-zero-requires Inv-loop μ-loop
+rest-zero-requires c κs = (omega arith, (omega arith, (omega arith, omega arith)))
 
 returns-2 : tie.Need-returns-2 Inv-loop μ-loop
 unfolding okPorts
 returns-2 c =
     let l : _ = c .before .before .before .before .before .loop in
-    c .rows-zero .ensures
+    c .rest-zero .ensures
     ∙ (rw (le-leb 1 (l .last) (omega arith)) at (ok-end (l .inv) (omega arith) (c .before .before .before .low8 .ensures) (c .before .before .if1 .taken)))
 
 port-fits-requires : tie.Need-port-fits-requires Inv-loop μ-loop
@@ -89,7 +89,7 @@ ports-fit-spec =
     mul-at
     low8-requires
     returns
-    rows-zero-requires
+    rest-zero-requires
     returns-2
     port-fits-requires
     add-last
