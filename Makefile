@@ -8,7 +8,7 @@ run:
 test:
 	@host/test.sh
 
-# The proved code against C, in one run: a line a case, ending in the ratio. On x86-64 alone.
+# The proved code against C, in one run: a line a case, ending in the ratio.
 bench:
 	@$(MAKE) -s -C host bench
 

@@ -7,9 +7,6 @@ TOOLS := $(shell dirname $$(dirname $$(rt doc)))/on/$(MACHINE)/toolchain
 ifeq ($(CLANG),)
 $(error clang is needed to compile for x86-64 on this machine ($(MACHINE)), and there is none)
 endif
-ifneq ($(filter bench,$(MAKECMDGOALS)),)
-$(error the library runs on an emulator here, and a time on an emulator says nothing)
-endif
 
 CC = clang
 CXX = clang++
@@ -17,6 +14,14 @@ COMPILERS = clang
 START = ./start.sh
 CROSS = --target=x86_64-linux-gnu -isystem /usr/include/$(MACHINE)-linux-gnu -fPIE -pie --ld-path=$(TOOLS)/bin/ld.lld \
 	-B$(TOOLS)/lib -nodefaultlibs $(TOOLS)/lib/libc.so.6 $(TOOLS)/lib/libc_nonshared.a -Qunused-arguments
+
+# A time on an emulator says nothing. So what is timed is the product compiled for this machine, against C by its own compilers.
+TIMES = native_times
+.PHONY: native_times
+
+native_times:
+	@echo "The library compiled for $(MACHINE) by the kit's clang, to be timed:"
+	@$(MAKE) LIBRARY_FOR=$(MACHINE) OUT=$(NATIVE) LIB=$(NATIVE)/libtmavolice.a times
 
 # Else stack that a caller by clang gives back before it jumps to a call would be taken off that call's.
 $(OUT)/stack: CFLAGS += -fno-optimize-sibling-calls

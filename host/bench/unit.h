@@ -15,7 +15,7 @@ struct unit {
     uint64_t (*restart)(uint8_t *image, size_t image_len, uint32_t clock);
 };
 
-/* The unit in C, once for each compiler for x86-64 that the machine has; NULL ends the list. */
+/* The unit in C, once for each compiler that the machine has for it; NULL ends the list. */
 extern const struct unit unit_gcc, unit_clang;
 extern const struct unit *const units_in_c[];
 

@@ -1,0 +1,39 @@
+#!/bin/sh
+# The proved library compiled for a machine that is not x86-64, for `make bench` alone. The kit compiles for x86-64 only, and hands the
+# module that it made of the proved code to the clang of its toolchain. Here it is handed a toolchain whose clang compiles that module
+# for this machine, with the same options but for the target. On any other way nothing of it is used.
+# Usage: native.sh LIBRARY.a, from the folder host
+machine=$(uname -m)
+kit=$(dirname "$(dirname "$(rt doc)")")
+own=$kit/on/$machine
+tools=$own/toolchain
+root=$(cd .. && pwd -P)
+work=$(mktemp -d) || exit 1
+trap 'rm -rf "$work"' EXIT
+
+mkdir "$work/bin"
+ln -s "$(cd "$tools/lib" && pwd -P)" "$work/lib"
+for tool in llvm-ar ld.lld; do
+    printf '#!/bin/sh\nexec %s "$@"\n' "$tools/bin/$tool" >"$work/bin/$tool"
+done
+
+# The compiler's lines that name a target, as this machine has them, in the place of the module's; and no processor named.
+echo | "$tools/bin/clang" "--target=$machine-unknown-linux-gnu" -S -emit-llvm -x c - -o - | grep '^target ' >"$work/target"
+cat >"$work/bin/clang" <<END
+#!/bin/sh
+$tools/bin/clang --target=x86_64-unknown-linux-gnu -S -emit-llvm -O3 -Xclang -disable-llvm-passes -x ir module.bc -o module.ll || exit
+sed -i -e '/^target /d' -e 's/"[a-z]*-cpu"="[^"]*"//g' -e 's/"target-features"="[^"]*"//g' module.ll
+cat $work/target module.ll >native.ll
+exec $tools/bin/clang --target=$machine-unknown-linux-gnu -ffunction-sections -fdata-sections -mllvm -trap-unreachable \
+    -mllvm -no-trap-after-noreturn -Werror -c -x ir native.ll -o module.o -fPIC -O3
+END
+chmod +x "$work"/bin/*
+
+set -- "$1" --crate-name tmavolice "$root/crates/tmavolice/src/lib.rt" --extern "std=$own/rlib/std.rlib"
+for crate in $(sed -n 's/^tmavolice: *//p' "$root/crates.txt"); do
+    set -- "$@" --extern "$crate=$root/target/rlib/$crate.rlib"
+done
+set -- "$@" -L "dependency=$root/target/rlib" -L "dependency=$own/rlib"
+set -- "$@" --antt-project "$kit/logic/antt-project.json" --logic-built "$own/logic-built"
+mkdir -p "$(dirname "$1")"
+"$own/bin/rattle" build --crate-type staticlib --toolchain "$work" -o "$@" >"$work/said" 2>&1 || { cat "$work/said"; exit 1; }
