@@ -17,6 +17,7 @@ pub mod ReadSizes
 pub mod ImageLaw
 pub mod TestLaw
 pub mod TurnLaws
+pub mod SumLaws
 pub mod MarkTurns
 pub mod AddressTurns
 pub mod PortTest

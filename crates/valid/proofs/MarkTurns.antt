@@ -1,8 +1,8 @@
--- Turns of the loops over the octets beside the flows' numbers, counted or compared with places, and over a number's octets.
+-- Turns of the loops over the octets beside the flows' numbers, counted or compared with places.
 use mathlib.Core.Path.{_≡_, refl, sym}
 use mathlib.Core.Bool.{Bool, true, false, cond, _&&_, _||_, and-true, and-assoc}
 use mathlib.Core.List.{List}
-use Prim.Native.Nat.{ℕ, zero, suc, _+_, _-_, _/_, _%_, _<_, _≤_}
+use Prim.Native.Nat.{ℕ, zero, suc, _+_, _<_, _≤_}
 use native.Mathlib.Nat.{add-zero, add-assoc}
 use native.Mathlib.Numerals.{add-one}
 use native.Mathlib.Omega.{arith}
@@ -13,7 +13,7 @@ use lib.Seq.{drop-cons}
 use borrow.Author.Tests.{ne-eqb, lt-leb}
 use Rattle.octets.specs.Lists.{count}
 use Rattle.octets.proofs.Zero.{or-eqb}
-use Rattle.valid.specs.Pass.{octetSum, okAllowed}
+use Rattle.valid.specs.Pass.{okAllowed}
 
 -- n elements below i pass the test
 pub count-turn : (test : ℕ → Bool) (l : List ℕ) (i n : ℕ) → i < length l
@@ -24,19 +24,6 @@ count-turn test l i n h = simp (add-one, drop-cons l i 0 h, add-assoc)
 pub count-end : (test : ℕ → Bool) (l : List ℕ) (i n : ℕ) → length l ≤ i → n + count test (drop i l) ≡ n
 unfolding count
 count-end test l i n h = simp (drop-of-length-le l h, add-zero)
-
--- the first i octets sum to n, and x is left
-pub sum-turn : (i n x : ℕ) → i < 8 → n + x % 256 + octetSum (8 - (i + 1)) (x / 256) ≡ n + octetSum (8 - i) x
-unfolding octetSum
-sum-turn i n x h =
-    let more : 8 - i ≡ suc (8 - (i + 1)) = omega arith in
-    rw (more, add-assoc)
-
-pub sum-end : (i n x : ℕ) {X : ℕ} → 8 ≤ i → n + octetSum (8 - i) x ≡ X → n ≡ X
-unfolding octetSum
-sum-end i n x h e =
-    let none : 8 - i ≡ 0 = omega arith in
-    simp (none, add-zero) at e
 
 -- an octet of an allowed flow is at most its place's mark
 at-most : (a : ℕ) (m : Bool) → (eqb a 0 || (eqb a 1 && m)) ≡ leb a (cond m 1 0)

@@ -28,18 +28,13 @@ fn marks_of(mps: u64) -> u64
     ((mps & 0x0303030303030303) + 0x0303030303030303) & 0x0404040404040404
 }
 
+// The octets are summed by pairs, all pairs at once, and then by fours.
 fn octet_sum(x: u64) -> u64
     ensures { λ r. ⌜ r ≡ octetSum 8 x ⌝ }
 {
-    let mut n: u64 = 0;
-    let mut rest = x;
-    let mut i: usize = 0;
-    while i < 8 {
-        n += rest % 256;
-        rest = rest / 256;
-        i += 1;
-    }
-    n
+    let pairs = (x & 0x00FF00FF00FF00FF) + (x / 256 & 0x00FF00FF00FF00FF);
+    let fours = pairs % 4294967296 + pairs / 4294967296;
+    fours % 65536 + fours / 65536
 }
 
 fn kind_of(b: &[u8], port: u8) -> u8
