@@ -12,7 +12,7 @@ use Rattle.state.specs.State.{State}
 use Rattle.state.specs.Image.{zeros, portRow, flowRow, sessionRow, rows, table, places, bit, image}
 use Rattle.state.proofs.Sizes.{Sized}
 use Rattle.state.proofs.ImageParts.{image-parts, places-length}
-use Rattle.valid.proofs.RowsLaw.{same-parts}
+use Rattle.tables.proofs.RowsLaw.{same-parts}
 
 -- a part of n octets, and what follows
 same-at : (p q l : List ℕ) (at n : ℕ) → length p ≡ n

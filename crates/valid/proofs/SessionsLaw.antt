@@ -20,8 +20,8 @@ use Rattle.state.specs.State.{isAllowed, goodSession}
 use Rattle.state.specs.Image.{sessionRow, table, rowsIn, places, sessionIn, stateOf}
 use Rattle.state.proofs.RowLaws.{session-exact, session-key-in, session-length}
 use Rattle.state.proofs.PlaceLaws.{numbered-flow, numbered-none, numbered-within}
-use Rattle.valid.specs.Pass.{goodIn, sessionFits, okSessions}
-use Rattle.valid.proofs.RowsLaw.{rows-law, keys-law}
+use Rattle.tables.proofs.RowsLaw.{rows-law, keys-law}
+use Rattle.valid.specs.Sessions.{goodIn, sessionFits, okSessions}
 
 ones-at : (l : List ℕ) (i : ℕ) → getD (map (eqb 1) l) i false ≡ eqb 1 (getD l i 0)
 ones-at [] i = refl

@@ -16,12 +16,13 @@ use Rattle.plan.proofs.Kept.{good-numbers}
 use Rattle.state.specs.State.{State, onlyFlows, goodSession}
 use Rattle.state.specs.Image.{portRow, flowRow, sessionRow, table, rowsIn, places, bit, portIn, stateOf, okImage}
 use Rattle.state.proofs.ImageLaws.{ok-length}
-use Rattle.valid.specs.Pass.{okPorts, okFlows, okAllowed, okSessions}
-use Rattle.valid.proofs.Tests.{and-left-comm, and-when}
-use Rattle.valid.proofs.RowsLaw.{octets-take}
-use Rattle.valid.proofs.PortsLaw.{ports-law}
-use Rattle.valid.proofs.FlowsLaw.{flows-law}
-use Rattle.valid.proofs.AllowedLaw.{allowed-law}
+use Rattle.tables.specs.Pass.{okPorts, okFlows, okAllowed}
+use Rattle.tables.proofs.Tests.{and-left-comm, and-when}
+use Rattle.tables.proofs.RowsLaw.{octets-take}
+use Rattle.tables.proofs.PortsLaw.{ports-law}
+use Rattle.tables.proofs.FlowsLaw.{flows-law}
+use Rattle.tables.proofs.AllowedLaw.{allowed-law}
+use Rattle.valid.specs.Sessions.{okSessions}
 use Rattle.valid.proofs.SessionsLaw.{sessions-law}
 use Rattle.valid.proofs.ImageLaw.{ports-read, flows-read, sessions-read, part-long, image-law}
 

@@ -1,12 +1,12 @@
 // Is this a valid state's image?
-use crate::flows::flows_fit;
-use crate::marks::allowed_fits;
-use crate::ports::addresses_differ;
-use crate::ports::ports_fit;
 use crate::sessions::sessions_fit;
 use octets::all_zero;
 use octets::low4;
 use octets::low8;
+use tables::addresses_differ;
+use tables::allowed_fits;
+use tables::flows_fit;
+use tables::ports_fit;
 ghost use mathlib.Core.Path.{_≡_};
 ghost use mathlib.Core.Bool.{_&&_};
 ghost use mathlib.Core.List.{map};
@@ -14,7 +14,7 @@ ghost use lib.ListN.{length, take, drop};
 ghost use Rattle.octets.specs.Octets.{allZero};
 ghost use Rattle.octets.specs.Lists.{distinct};
 ghost use Rattle.state.specs.Image.{portIn, rowsIn, okImage};
-ghost use Rattle.valid.specs.Pass.{okPorts, okFlows};
+ghost use Rattle.tables.specs.Pass.{okPorts, okFlows};
 
 // Are the octets behind the clock 0? By words: of a run of 28 octets the compiler makes long code.
 fn head_zero(b: &[u8]) -> bool

@@ -1,5 +1,4 @@
 // The sessions' rows of an image: are they right?
-use crate::rest::rest_zero;
 use codec::is_group;
 use machine::Session;
 use octets::low2;
@@ -7,6 +6,7 @@ use octets::low8;
 use state::mp_of;
 use state::numbered_at;
 use state::read_session;
+use tables::rest_zero;
 ghost use mathlib.Core.Path.{_≡_};
 ghost use mathlib.Core.Bool.{cond, _&&_, not};
 ghost use Prim.Native.Nat.{_+_, _≤_};
@@ -16,7 +16,7 @@ ghost use Rattle.codec.specs.FrameSet.{c-tagged, c-tag, s-tag, group, setOf, ta
 ghost use Rattle.plan.specs.Plan.{faces, mpAt};
 ghost use Rattle.state.specs.State.{goodTime};
 ghost use Rattle.state.specs.Rows.{flowOfRow};
-ghost use Rattle.valid.specs.Pass.{goodIn, sessionFits, okSessions};
+ghost use Rattle.valid.specs.Sessions.{goodIn, sessionFits, okSessions};
 
 pub fn faces(mp: u8, side: u8) -> bool
     ensures { λ r. ⌜ r ≡ faces mp side ⌝ }

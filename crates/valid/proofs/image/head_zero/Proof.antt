@@ -3,7 +3,7 @@ use lib.ListN.{drop}
 use denote.Ref.{now}
 use borrow.Author.Needs.{needs}
 use Rattle.octets.proofs.LowLaws.{low-zero}
-use Rattle.valid.proofs.ZeroLaws.{head-next, head-bad}
+use Rattle.tables.proofs.ZeroLaws.{head-next, head-bad}
 use Rattle.valid.proofs.image.head_zero.Statement.{statement}
 use Rattle.valid.proofs.image.head_zero.Tie as tie
 

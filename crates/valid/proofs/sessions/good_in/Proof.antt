@@ -3,7 +3,7 @@ use denote.Ref.{now}
 use borrow.Author.Tests.{ne-eqb}
 use borrow.Author.Needs.{needs}
 use Rattle.state.proofs.Inside.{numbered-fits}
-use Rattle.valid.specs.Pass.{goodIn}
+use Rattle.valid.specs.Sessions.{goodIn}
 use Rattle.valid.proofs.SessionTest.{numbered-flow}
 use Rattle.valid.proofs.sessions.good_in.Statement.{statement}
 use Rattle.valid.proofs.sessions.good_in.Tie as tie

@@ -2,7 +2,7 @@ use lib.Seq.{drop-drop}
 use borrow.Author.Tests.{le-ltb, lt-ltb}
 use borrow.Author.Needs.{needs}
 use Rattle.octets.proofs.LowLaws.{low-zero}
-use Rattle.valid.specs.Pass.{sessionFits}
+use Rattle.valid.specs.Sessions.{sessionFits}
 use Rattle.valid.proofs.sessions.session_fits.Statement.{statement}
 use Rattle.valid.proofs.sessions.session_fits.Tie as tie
 

@@ -4,8 +4,8 @@ use Prim.Native.Nat.{_-_}
 use native.Mathlib.Omega.{arith}
 use denote.Ref.{now}
 use Rattle.octets.specs.Octets.{lowNumber}
-use Rattle.valid.specs.Pass.{sessionFits, okSessions}
-use Rattle.valid.proofs.TurnLaws.{Passing, ok-start, ok-end, ok-bad, ok-next, ok-done, none-behind}
+use Rattle.tables.proofs.TurnLaws.{Passing, ok-start, ok-end, ok-bad, ok-next, ok-done, none-behind}
+use Rattle.valid.specs.Sessions.{sessionFits, okSessions}
 use Rattle.valid.proofs.sessions.sessions_fit.Statement.{statement}
 use Rattle.valid.proofs.sessions.sessions_fit.Tie as tie
 
