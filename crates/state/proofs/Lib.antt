@@ -1,5 +1,6 @@
 mod Examples
 pub mod Cuts
+pub mod Runs
 pub mod RowLaws
 pub mod RowAnswers
 pub mod TableLaws

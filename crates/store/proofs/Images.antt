@@ -15,6 +15,7 @@ use Rattle.machine.specs.Machine.{keyOf, withdrawn}
 use Rattle.machine.specs.Time.{ticked}
 use Rattle.state.specs.State.{State, withSessions, valid, goodSession}
 use Rattle.state.specs.Image.{zeros, bit, head, image}
+use Rattle.state.proofs.Runs.{set-past, set-map}
 use Rattle.state.proofs.RowLaws.{SessionFits}
 use Rattle.state.proofs.TableLaws.{each}
 use Rattle.state.proofs.Rules.{Valid, valid-parts}
@@ -23,7 +24,6 @@ use Rattle.state.proofs.ImageParts.{image-parts, places-part}
 use Rattle.state.proofs.ImageLaws.{head-length}
 use Rattle.store.specs.Stored.{sessionsMapped, sessionsCleared, sessionPut, sessionRemoved}
 use Rattle.store.proofs.Kept.{each-put, each-without, each-map}
-use Rattle.store.proofs.Runs.{set-past, set-map}
 use Rattle.store.proofs.Steps.{Keeps, kept-key, kept-fits}
 use Rattle.store.proofs.Tables.{Tabled, mapped-table, cleared-table}
 use Rattle.store.proofs.PutTable.{put-table}

@@ -3,13 +3,9 @@ pub mod PlaceLaws
 pub mod Steps
 pub mod Ways
 pub mod Kept
-pub mod Runs
 pub mod Tables
 pub mod Seeks
 pub mod Shift
 pub mod PutTable
 pub mod RemoveTable
 pub mod Images
-pub mod PlanRows
-pub mod Seats
-pub mod Made

@@ -9,10 +9,10 @@ use lib.Seq.{take-at, drop-at, drop-drop, length-take-le}
 use Rattle.octets.specs.Octets.{splice, movedUp, movedDown}
 use Rattle.machine.specs.declared.Session.{Session}
 use Rattle.state.specs.Image.{zeros, sessionRow, table}
+use Rattle.state.proofs.Runs.{take-past, drop-past, take-zeros, drop-zeros, zeros-join}
 use Rattle.state.proofs.RowLaws.{session-length}
 use Rattle.state.proofs.TableLaws.{Each, none-table, table-length}
 use Rattle.store.specs.Stored.{rowPut}
-use Rattle.store.proofs.Runs.{take-past, drop-past, take-zeros, drop-zeros, zeros-join}
 use Rattle.store.proofs.Tables.{first-row}
 
 -- ---- a row at the end of a head of m octets

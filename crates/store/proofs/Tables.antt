@@ -14,10 +14,10 @@ use Rattle.octets.proofs.Ordered.{next-key}
 use Rattle.machine.specs.declared.Session.{Session}
 use Rattle.machine.specs.Machine.{keyOf}
 use Rattle.state.specs.Image.{zeros, sessionRow, sessionIn, table}
+use Rattle.state.proofs.Runs.{drop-past, drop-zeros, zeros-join, zeros-number}
 use Rattle.state.proofs.RowLaws.{SessionFits, session-length, session-back, session-key}
 use Rattle.state.proofs.TableLaws.{Each, rest-table, none-table}
 use Rattle.store.specs.Stored.{mapRows, sessionsMapped, sessionsCleared}
-use Rattle.store.proofs.Runs.{drop-past, drop-zeros, zeros-join, zeros-number}
 
 -- sessions that make a table: at most 16 with ascending keys, each of which fits its row
 pub record Tabled (xs : List Session) : Type 0 where

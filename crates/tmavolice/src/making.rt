@@ -1,8 +1,8 @@
 // A unit is made from a plan's text.
 use calls::Answer;
 use calls::answer_number;
+use maker::make_image;
 use reader::read_plan;
-use store::make_image;
 ghost use mathlib.Core.List.{[]};
 ghost use Rattle.calls.specs.Calls.{make, enter};
 ghost use Rattle.tmavolice.specs.Outcome.{Outcome};

@@ -13,7 +13,7 @@ ghost use Rattle.octets.specs.Octets.{splice};
 ghost use Rattle.plan.specs.Plan.{keepsRules};
 ghost use Rattle.plan.specs.Held.{heldPorts, heldFlows, planOf};
 ghost use Rattle.state.specs.Image.{portRow, flowRow, rows, image};
-ghost use Rattle.store.specs.Made.{placesPut};
+ghost use Rattle.maker.specs.Made.{placesPut};
 
 fn port_octets(p: Port) -> [u8; 16]
     ensures { λ r. ⌜ r ≡ portRow p ⌝ }

@@ -5,10 +5,10 @@ use lib.ListN.{length, length-map}
 use Rattle.octets.specs.Octets.{lowOctets}
 use Rattle.plan.specs.declared.Flow.{Flow}
 use Rattle.state.specs.Image.{zeros, flowRow}
-use Rattle.store.proofs.PlanRows.{eight}
+use Rattle.maker.proofs.PlanRows.{eight}
 use borrow.Author.Needs.{needs}
-use Rattle.store.proofs.making.flow_octets.Statement.{statement}
-use Rattle.store.proofs.making.flow_octets.Tie as tie
+use Rattle.maker.proofs.making.flow_octets.Statement.{statement}
+use Rattle.maker.proofs.making.flow_octets.Tie as tie
 
 cast-t4 : tie.Need-cast-t4
 cast-t4 c = search needs

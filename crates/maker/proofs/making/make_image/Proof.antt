@@ -1,9 +1,9 @@
 use denote.Ref.{now}
 use Rattle.plan.specs.Held.{planOf}
-use Rattle.store.proofs.Made.{made-image}
+use Rattle.maker.proofs.Made.{made-image}
 use borrow.Author.Needs.{needs}
-use Rattle.store.proofs.making.make_image.Statement.{statement}
-use Rattle.store.proofs.making.make_image.Tie as tie
+use Rattle.maker.proofs.making.make_image.Statement.{statement}
+use Rattle.maker.proofs.making.make_image.Tie as tie
 
 clear-requires : tie.Need-clear-requires
 clear-requires c κs = search needs

@@ -4,10 +4,10 @@ use native.Mathlib.Omega.{arith}
 use borrow.Author.Needs.{needs}
 use lib.ListN.{length, drop, length-set}
 use Rattle.plan.specs.Held.{heldFlows}
-use Rattle.store.specs.Made.{placesPut}
-use Rattle.store.proofs.PlanRows.{places-stop, places-turn, places-done}
-use Rattle.store.proofs.making.put_places.Statement.{statement}
-use Rattle.store.proofs.making.put_places.Tie as tie
+use Rattle.maker.specs.Made.{placesPut}
+use Rattle.maker.proofs.PlanRows.{places-stop, places-turn, places-done}
+use Rattle.maker.proofs.making.put_places.Statement.{statement}
+use Rattle.maker.proofs.making.put_places.Tie as tie
 
 abbrev Inv-loop : tie.InvT-loop
 Inv-loop b₀ flows i₀ b i =

@@ -12,7 +12,7 @@ use Rattle.plan.specs.Held.{heldFlows}
 use Rattle.plan.proofs.HeldLaws.{Rows, flow-rows, rows-none, rows-one, rows-end}
 use Rattle.state.specs.Image.{rows}
 use Rattle.state.proofs.Cuts.{take-two}
-use Rattle.store.specs.Made.{placesPut}
+use Rattle.maker.specs.Made.{placesPut}
 
 -- eight octets, one by one
 pub eight : (l : List ℕ) → length l ≡ 8

@@ -14,10 +14,10 @@ use Rattle.octets.proofs.Cases.{by-eq}
 use Rattle.octets.proofs.ListLaws.{within-low, within-high}
 use Rattle.plan.specs.declared.Flow.{Flow}
 use Rattle.state.specs.Image.{zeros, placeFrom, places}
+use Rattle.state.proofs.Runs.{set-past}
 use Rattle.state.proofs.FlowPlaces.{place-at}
 use Rattle.state.proofs.ImageParts.{places-length}
-use Rattle.store.specs.Made.{placesPut}
-use Rattle.store.proofs.Runs.{set-past}
+use Rattle.maker.specs.Made.{placesPut}
 
 abbrev pub numbers : List Flow → List ℕ
 numbers fs = map (λ f. f .number) fs

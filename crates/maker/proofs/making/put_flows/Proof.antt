@@ -8,9 +8,9 @@ use Rattle.octets.proofs.Over.{length-splice}
 use Rattle.plan.specs.Held.{heldFlows}
 use Rattle.plan.proofs.HeldLaws.{flow-rows}
 use Rattle.state.specs.Image.{flowRow, rows}
-use Rattle.store.proofs.PlanRows.{rows-stop, rows-turn, rows-done}
-use Rattle.store.proofs.making.put_flows.Statement.{statement}
-use Rattle.store.proofs.making.put_flows.Tie as tie
+use Rattle.maker.proofs.PlanRows.{rows-stop, rows-turn, rows-done}
+use Rattle.maker.proofs.making.put_flows.Statement.{statement}
+use Rattle.maker.proofs.making.put_flows.Tie as tie
 
 abbrev Inv-loop : tie.InvT-loop
 Inv-loop b₀ flows i₀ b i =

@@ -2,8 +2,8 @@ use mathlib.Core.Path.{refl}
 use Rattle.octets.specs.Octets.{lowOctets}
 use Rattle.state.specs.Image.{zeros, portRow}
 use borrow.Author.Needs.{needs}
-use Rattle.store.proofs.making.port_octets.Statement.{statement}
-use Rattle.store.proofs.making.port_octets.Tie as tie
+use Rattle.maker.proofs.making.port_octets.Statement.{statement}
+use Rattle.maker.proofs.making.port_octets.Tie as tie
 
 cast-t3 : tie.Need-cast-t3
 cast-t3 c = search needs

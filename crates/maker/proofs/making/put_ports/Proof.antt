@@ -8,9 +8,9 @@ use Rattle.octets.proofs.Over.{length-splice}
 use Rattle.plan.specs.Held.{heldPorts}
 use Rattle.plan.proofs.HeldLaws.{port-rows}
 use Rattle.state.specs.Image.{portRow, rows}
-use Rattle.store.proofs.PlanRows.{rows-stop, rows-turn, rows-done}
-use Rattle.store.proofs.making.put_ports.Statement.{statement}
-use Rattle.store.proofs.making.put_ports.Tie as tie
+use Rattle.maker.proofs.PlanRows.{rows-stop, rows-turn, rows-done}
+use Rattle.maker.proofs.making.put_ports.Statement.{statement}
+use Rattle.maker.proofs.making.put_ports.Tie as tie
 
 abbrev Inv-loop : tie.InvT-loop
 Inv-loop b₀ ports i₀ b i =

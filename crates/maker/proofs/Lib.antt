@@ -1,0 +1,3 @@
+mod PlanRows
+mod Seats
+mod Made
