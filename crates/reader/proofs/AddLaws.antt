@@ -17,7 +17,7 @@ use Rattle.plan.proofs.Faultless.{port-cleared, flow-cleared, mp-cleared}
 use Rattle.plan.proofs.Room.{port-absent, set-absent, port-room, flow-room}
 use Rattle.plan.proofs.HeldLaws.{flow-rows}
 use Rattle.reader.proofs.ReasonLaws.{vid-high}
-use Rattle.reader.proofs.InsertLaws.{held-map}
+use Rattle.records.proofs.InsertLaws.{held-map}
 
 pub record PortFits (r : Records) (number : ℕ) : Type 0 where
   pub named : 0 < number

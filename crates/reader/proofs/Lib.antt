@@ -1,6 +1,4 @@
-mod SeekLaws
 mod CapLaws
 mod ReasonLaws
-mod InsertLaws
 mod AddLaws
 mod ReadLaws

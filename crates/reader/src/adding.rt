@@ -1,11 +1,11 @@
 // A record added to those held, in its place.
-use crate::placing::flow_put;
-use crate::placing::mps_put;
-use crate::placing::port_put;
 use lines::Said;
 use plan::Flow;
 use plan::Port;
 use plan::Records;
+use records::flow_put;
+use records::mps_put;
+use records::port_put;
 ghost use mathlib.Core.Path.{_≡_};
 ghost use mathlib.Core.Bool.{true};
 ghost use Rattle.plan.specs.Plan.{soFar};

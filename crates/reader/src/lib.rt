@@ -2,8 +2,6 @@
 use plan::Records;
 
 mod adding;
-mod holding;
-mod placing;
 mod ranges;
 mod reading;
 mod reasons;

@@ -1,13 +1,13 @@
 // A plan's text, read line by line.
 use crate::ReadPlan;
 use crate::adding::with_line;
-use crate::holding::no_flow;
-use crate::holding::no_port;
-use crate::holding::none_held;
 use crate::reasons::reason_of;
 use lines::end_of;
 use lines::line_of;
 use plan::Records;
+use records::no_flow;
+use records::no_port;
+use records::none_held;
 ghost use mathlib.Core.Path.{_≡_};
 ghost use Prim.Native.Nat.{_<_};
 ghost use Rattle.plan.specs.PlanText.{fault, finished, emptyPlan, planIn};

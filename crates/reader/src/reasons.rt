@@ -1,9 +1,4 @@
 // The reason of a line's fault, the first that applies; 0 where none does.
-use crate::holding::address_held;
-use crate::holding::flow_numbered;
-use crate::holding::mps_held;
-use crate::holding::port_numbered;
-use crate::holding::set_held;
 use crate::ranges::flow_out;
 use crate::ranges::good_kind;
 use crate::ranges::mp_out;
@@ -12,6 +7,11 @@ use lines::Said;
 use plan::Flow;
 use plan::Port;
 use plan::Records;
+use records::address_held;
+use records::flow_numbered;
+use records::mps_held;
+use records::port_numbered;
+use records::set_held;
 ghost use mathlib.Core.Path.{_≡_};
 ghost use mathlib.Core.Bool.{_||_};
 ghost use Prim.Native.Nat.{_<_};

@@ -1,0 +1,2 @@
+mod SeekLaws
+pub mod InsertLaws
