@@ -1,7 +1,7 @@
 #!/bin/sh
 # The proved library compiled for a machine that is not x86-64, for `make bench` alone. The kit compiles for x86-64 only, and hands the
 # module that it made of the proved code to the clang of its toolchain. Here it is handed a toolchain whose clang compiles that module
-# for this machine, with the same options but for the target. On any other way nothing of it is used.
+# for this machine, with the same options but for the target. Nothing else uses what this makes.
 # Usage: native.sh LIBRARY.a, from the folder host
 machine=$(uname -m)
 kit=$(dirname "$(dirname "$(rt doc)")")
