@@ -17,15 +17,25 @@ for tool in llvm-ar ld.lld; do
     printf '#!/bin/sh\nexec %s "$@"\n' "$tools/bin/$tool" >"$work/bin/$tool"
 done
 
-# The compiler's lines that name a target, as this machine has them, in the place of the module's; and no processor named.
+# The lines of a module that name its target, as this machine has them. They stand in the place of the module's own, with no processor
+# named; all other words go on to the kit's clang as they are.
 echo | "$tools/bin/clang" "--target=$machine-unknown-linux-gnu" -S -emit-llvm -x c - -o - | grep '^target ' >"$work/target"
 cat >"$work/bin/clang" <<END
 #!/bin/sh
-$tools/bin/clang --target=x86_64-unknown-linux-gnu -S -emit-llvm -O3 -Xclang -disable-llvm-passes -x ir module.bc -o module.ll || exit
-sed -i -e '/^target /d' -e 's/"[a-z]*-cpu"="[^"]*"//g' -e 's/"target-features"="[^"]*"//g' module.ll
-cat $work/target module.ll >native.ll
-exec $tools/bin/clang --target=$machine-unknown-linux-gnu -ffunction-sections -fdata-sections -mllvm -trap-unreachable \
-    -mllvm -no-trap-after-noreturn -Werror -c -x ir native.ll -o module.o -fPIC -O3
+for word; do
+    shift
+    case \$word in
+    --target=*) word=--target=$machine-unknown-linux-gnu ;;
+    -march=*) continue ;;
+    *.bc)
+        $tools/bin/clang --target=x86_64-unknown-linux-gnu -S -emit-llvm -O3 -Xclang -disable-llvm-passes -x ir "\$word" -o module.ll || exit
+        sed -e '/^target /d' -e 's/"[a-z]*-cpu"="[^"]*"//g' -e 's/"target-features"="[^"]*"//g' module.ll | cat $work/target - >native.ll
+        word=native.ll
+        ;;
+    esac
+    set -- "\$@" "\$word"
+done
+exec $tools/bin/clang "\$@"
 END
 chmod +x "$work"/bin/*
 

@@ -3,7 +3,7 @@ use mathlib.Core.Path.{_≡_, refl, ap, _∙_}
 use mathlib.Core.Bool.{cond}
 use mathlib.Core.List.{List, [], _∷_}
 use Prim.Native.Nat.{ℕ, suc, zero, _+_, _*_, _/_, _^_, _<_, _≤_}
-use native.Mathlib.Nat.{mod-eq-of-lt}
+use native.Mathlib.Nat.{add-comm, mod-eq-of-lt}
 use native.Mathlib.Omega.{arith}
 use lib.Bits.{bitAnd, and-block, and-high, and-le-l}
 use lib.Dec.{eqb, leb}
@@ -20,11 +20,9 @@ unfoldable pub mask : ℕ → ℕ → ℕ
 mask zero c = 0
 mask (suc n) c = c + mask n c * 256
 
-pub and-octets : (x m c k : ℕ) → x < 256 → c < 256 → bitAnd (x + m * 256) (c + k * 256) ≡ bitAnd x c + bitAnd m k * 256
-and-octets x m c k h f =
-    let e : x + m * 256 ≡ m * 2 ^ 8 + x = omega arith in
-    let g : c + k * 256 ≡ k * 2 ^ 8 + c = omega arith in
-    rw (e, g, and-block 8 m k x c h f) (omega arith)
+-- two numbers, each in a part of k bits and one above it
+pub and-parts : (k x m c n : ℕ) → x < 2 ^ k → c < 2 ^ k → bitAnd (x + m * 2 ^ k) (c + n * 2 ^ k) ≡ bitAnd x c + bitAnd m n * 2 ^ k
+and-parts k x m c n h f = rw (add-comm x (m * 2 ^ k), add-comm c (n * 2 ^ k), and-block k m n x c h f) (add-comm _ _)
 
 -- ---- no octet above 3
 
@@ -42,7 +40,7 @@ unfolding mask lowNumber every
 odd-none [] o = refl
 odd-none (x ∷ l) o =
     rw (
-      and-octets x (lowNumber (length l) l) 252 (mask (length l) 252) (o 0) (omega arith),
+      and-parts 8 x (lowNumber (length l) l) 252 (mask (length l) 252) (o 0) (omega arith),
       sum-zero,
       odd-octet x (o 0),
       odd-none l (λ i. o (suc i)),
@@ -72,8 +70,8 @@ marks-octets n x m h =
     let k : ℕ = bitAnd m (mask n 3) in
     let e : y + k * 256 + (3 + mask n 3 * 256) ≡ y + 3 + (k + mask n 3) * 256 = omega arith in
     rw (
-      and-octets x m 3 (mask n 3) (omega arith) (omega arith),
+      and-parts 8 x m 3 (mask n 3) (omega arith) (omega arith),
       e,
-      and-octets (y + 3) (k + mask n 3) 4 (mask n 4) (omega arith) (omega arith),
+      and-parts 8 (y + 3) (k + mask n 3) 4 (mask n 4) (omega arith) (omega arith),
       mark-octet x h,
     )

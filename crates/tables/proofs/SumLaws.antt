@@ -1,9 +1,11 @@
 -- A number's octets summed by pairs, and then by fours.
 use mathlib.Core.Path.{_≡_, _∙_}
 use Prim.Native.Nat.{ℕ, zero, suc, _+_, _*_, _/_, _%_, _^_, _<_, _≤_}
+use native.Mathlib.Nat.{mod-eq-of-lt, div-eq-of-lt, add-mul-div-right, add-mul-mod-self-right}
 use native.Mathlib.Omega.{arith}
-use lib.Bits.{bitAnd, and-block, and-mask, and-zero-r, and-le-r}
+use lib.Bits.{bitAnd, and-mask, and-zero-r, and-le-r}
 use Rattle.tables.specs.Pass.{octetSum}
+use Rattle.tables.proofs.BitLaws.{and-parts}
 
 -- every second octet of a number from its lowest on, in 16 bits each; and the mask that leaves them
 unfoldable seconds : ℕ → ℕ → ℕ
@@ -18,22 +20,20 @@ and-seconds : (n x : ℕ) → bitAnd x (secondMask n) ≡ seconds n x
 unfolding seconds secondMask
 and-seconds zero x = and-zero-r x
 and-seconds (suc n) x =
-    let high : ℕ = x / 65536 in
     let low : ℕ = x % 65536 in
-    let m : ℕ = secondMask n in
-    let number : high * 2 ^ 16 + low ≡ x = omega arith in
-    let masks : m * 2 ^ 16 + 255 ≡ 255 + m * 65536 = omega arith in
+    let high : ℕ = x / 65536 in
+    let number : low + high * 65536 ≡ x = omega arith in
     let octet : bitAnd low 255 ≡ low % 256 = and-mask low 8 in
-    let parts : _ = and-block 16 high m low 255 (omega arith) (omega arith) in
-    let known : bitAnd x (255 + m * 65536) ≡ seconds n high * 65536 + low % 256 = rw (number, masks, octet, and-seconds n high) at parts in
+    let parts : _ = and-parts 16 low high 255 (secondMask n) (omega arith) (omega arith) in
+    let known : bitAnd x (255 + secondMask n * 65536) ≡ low % 256 + seconds n high * 65536 =
+    rw (number, octet, and-seconds n high) at parts in
     known ∙ omega arith
 
--- two halves of a number, added
-halves : (u v : ℕ) → u < 4294967296 → (u + v * 4294967296) % 4294967296 + (u + v * 4294967296) / 4294967296 ≡ u + v
-halves u v h = omega arith
-
-quarters : (u v : ℕ) → u < 65536 → (u + v * 65536) % 65536 + (u + v * 65536) / 65536 ≡ u + v
-quarters u v h = omega arith
+-- the two parts of a number, added
+parts-added : (k u v : ℕ) → u < k → (u + v * k) % k + (u + v * k) / k ≡ u + v
+parts-added k u v h =
+    let pos : 0 < k = omega arith in
+    rw (add-mul-mod-self-right, mod-eq-of-lt h, add-mul-div-right u v pos, div-eq-of-lt h) (omega arith)
 
 -- four sums of two octets each, of 16 bits, in one number
 by-fours : (a b c d e f g h : ℕ) → a + b ≤ 510 → c + d ≤ 510 → e + f ≤ 510 → g + h ≤ 510
@@ -45,7 +45,7 @@ by-fours a b c d e f g h ab cd ef gh =
     let v : ℕ = e + f + (g + h) * 65536 in
     let two : a + b + (c + d + v * 65536) * 65536 ≡ u + v * 4294967296 = omega arith in
     let sum : u + v ≡ a + b + (e + f) + (c + d + (g + h)) * 65536 = omega arith in
-    rw (two, halves u v (omega arith), sum, quarters (a + b + (e + f)) (c + d + (g + h)) (omega arith)) (omega arith)
+    rw (two, parts-added 4294967296 u v (omega arith), sum, parts-added 65536 (a + b + (e + f)) (c + d + (g + h)) (omega arith)) (omega arith)
 
 two-down : (x : ℕ) → x / 65536 ≡ x / 256 / 256
 two-down x = omega arith
