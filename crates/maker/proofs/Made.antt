@@ -17,11 +17,12 @@ use Rattle.plan.proofs.Room.{ports-few, flows-few}
 use Rattle.state.specs.State.{State}
 use Rattle.state.specs.Image.{zeros, portRow, flowRow, sessionRow, portIn, flowIn, rows, table, places, bit, image}
 use Rattle.state.proofs.Runs.{drop-zeros, zeros-join}
+use Rattle.state.proofs.FlowPlaces.{numbers}
 use Rattle.state.proofs.ImageParts.{image-parts}
 use Rattle.state.proofs.Sizes.{ports-readable, flows-readable}
 use Rattle.state.proofs.TableLaws.{Each, each-also, Readable, none-table, rows-length, table-length}
 use Rattle.maker.specs.Made.{placesPut}
-use Rattle.maker.proofs.Seats.{numbers, put-places}
+use Rattle.maker.proofs.Seats.{put-places}
 
 zeros-length : (n : ℕ) → length (zeros n) ≡ n
 unfolding zeros

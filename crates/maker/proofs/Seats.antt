@@ -1,13 +1,13 @@
 -- The places of the flows: each put where its number leads, over zeros, they are the places of the image.
 use mathlib.Core.Path.{_≡_, refl, sym, _∙_}
-use mathlib.Core.Bool.{true, false, cond, not, false≢true}
-use mathlib.Core.List.{List, [], _∷_, _++_, map}
+use mathlib.Core.Bool.{true, false, cond, not}
+use mathlib.Core.List.{List, [], _∷_, _++_}
 use Prim.Native.Nat.{ℕ, _+_, _-_, _<_, _≤_}
 use native.Mathlib.Omega.{arith}
 use lib.Dec.{eqb}
 use lib.ListN.{length, getD, set, length-set, length-replicate, getD-replicate}
 use lib.Seq.{set-append-left, getD-set-same, getD-set-other, ext-getD}
-use borrow.Author.Tests.{eq-eqb, ne-eqb, not-true}
+use borrow.Author.Tests.{ne-eqb, not-true}
 use Rattle.octets.specs.Lists.{within, every, some, distinct}
 use Rattle.octets.proofs.Same.{both-true}
 use Rattle.octets.proofs.Cases.{by-eq}
@@ -15,12 +15,9 @@ use Rattle.octets.proofs.ListLaws.{within-low, within-high}
 use Rattle.plan.specs.declared.Flow.{Flow}
 use Rattle.state.specs.Image.{zeros, placeFrom, places}
 use Rattle.state.proofs.Runs.{set-past}
-use Rattle.state.proofs.FlowPlaces.{place-at}
+use Rattle.state.proofs.FlowPlaces.{numbers, no-place, place-at}
 use Rattle.state.proofs.ImageParts.{places-length}
 use Rattle.maker.specs.Made.{placesPut}
-
-abbrev pub numbers : List Flow → List ℕ
-numbers fs = map (λ f. f .number) fs
 
 -- the places alone, that of number 1 first
 unfoldable seats : ℕ → List Flow → List ℕ → List ℕ
@@ -44,14 +41,6 @@ put-seats p (f ∷ fs) a l t ea el w =
     let e : 63 + n ≡ 64 + (n - 1) = omega arith in
     rw (e, set-past a (l ++ t) 64 (n - 1) p ea, set-append-left l t (n - 1) p (omega arith))
     (put-seats (p + 1) fs a (set l (n - 1) p) t ea (length-set l (n - 1) p ∙ el) (c .1))
-
-no-place : (n p : ℕ) (fs : List Flow) → some (eqb n) (numbers fs) ≡ false → placeFrom n p fs ≡ 0
-unfolding some placeFrom
-no-place n p [] e = refl
-no-place n p (f ∷ fs) e =
-    by-eq (f .number) n
-    (λ t here. absurd (false≢true (sym e ∙ rw (eq-eqb n (f .number) (sym here)))))
-    (λ t other. let r : _ = rw (ne-eqb n (f .number) (λ z. other (sym z))) at e in rw t (no-place n (p + 1) fs r))
 
 -- a number's seat holds its place, or what it held before
 abbrev seated : ℕ → ℕ → ℕ

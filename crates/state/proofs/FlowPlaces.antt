@@ -1,20 +1,31 @@
 -- The place of a flow's number among the flows, and the row that stands there.
 use mathlib.Core.Path.{_≡_, refl, sym, _∙_}
-use mathlib.Core.Bool.{true, false, cond, not, true≢false}
-use mathlib.Core.List.{List, [], _∷_}
+use mathlib.Core.Bool.{true, false, cond, not, true≢false, false≢true}
+use mathlib.Core.List.{List, [], _∷_, map}
 use Prim.Native.Nat.{ℕ, zero, suc, _+_, _-_, _*_, _<_, _≤_}
 use native.Mathlib.Omega.{arith}
 use lib.Dec.{eqb}
 use lib.ListN.{length, getD, drop}
 use lib.Seq.{drop-drop}
-use borrow.Author.Tests.{ne-eqb, le-leb}
+use borrow.Author.Tests.{eq-eqb, ne-eqb, le-leb}
 use Rattle.octets.specs.Octets.{lowNumber}
-use Rattle.octets.specs.Lists.{within, every, first}
+use Rattle.octets.specs.Lists.{within, every, some, first}
 use Rattle.octets.proofs.Cases.{by-eq}
 use Rattle.octets.proofs.Same.{both-true}
 use Rattle.plan.specs.declared.Flow.{Flow}
 use Rattle.plan.specs.Plan.{noFlow, inPlan}
 use Rattle.state.specs.Image.{rowsIn, placeFrom, places, flowIn}
+
+abbrev pub numbers : List Flow → List ℕ
+numbers fs = map (λ f. f .number) fs
+
+pub no-place : (n p : ℕ) (fs : List Flow) → some (eqb n) (numbers fs) ≡ false → placeFrom n p fs ≡ 0
+unfolding some placeFrom
+no-place n p [] e = refl
+no-place n p (f ∷ fs) e =
+    by-eq (f .number) n
+    (λ t here. absurd (false≢true (sym e ∙ rw (eq-eqb n (f .number) (sym here)))))
+    (λ t other. let r : _ = rw (ne-eqb n (f .number) (λ z. other (sym z))) at e in rw t (no-place n (p + 1) fs r))
 
 -- a place is 0, or it counts from the first place, s, and stays within the flows
 pub place-bounds : (n s : ℕ) (fs : List Flow) → (placeFrom n s fs ≡ 0 → ⊥)

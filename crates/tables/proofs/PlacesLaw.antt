@@ -16,9 +16,9 @@ use Rattle.octets.proofs.ListLaws.{within-low, within-high}
 use Rattle.plan.specs.declared.Flow.{Flow}
 use Rattle.state.specs.Image.{placeFrom, places}
 use Rattle.tables.proofs.Tests.{pass-same}
-use Rattle.tables.proofs.Used.{numbers, used, places-from, all-used, Agrees, equal-used}
+use Rattle.tables.proofs.Used.{used, places-from, all-used, Agrees, equal-used}
 use Rattle.state.proofs.ImageParts.{places-length}
-use Rattle.state.proofs.FlowPlaces.{place-at}
+use Rattle.state.proofs.FlowPlaces.{numbers, place-at}
 
 -- does each flow's number lead to its place, from p on?
 unfoldable pub placed : (ℕ → ℕ) → ℕ → List Flow → Bool

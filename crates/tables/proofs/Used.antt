@@ -1,21 +1,19 @@
 -- The places of the flow numbers: how many are used, and two lists of places compared.
-use mathlib.Core.Path.{_≡_, refl, sym, ap, _∙_}
-use mathlib.Core.Bool.{true, false, not, false≢true}
-use mathlib.Core.List.{List, [], _∷_, map}
+use mathlib.Core.Path.{_≡_, refl, ap, _∙_}
+use mathlib.Core.Bool.{true, false, not}
+use mathlib.Core.List.{List, [], _∷_}
 use Prim.Native.Nat.{ℕ, suc, zero, _+_, _<_, _≤_}
 use native.Mathlib.Omega.{arith}
 use lib.Dec.{eqb, leb}
 use lib.ListN.{length, getD}
-use borrow.Author.Tests.{eq-eqb, ne-eqb, le-leb, not-true}
+use borrow.Author.Tests.{ne-eqb, le-leb, not-true}
 use Rattle.octets.specs.Lists.{within, every, some, count, distinct}
 use Rattle.octets.proofs.Same.{both-true}
 use Rattle.octets.proofs.Cases.{by-eq, by-le}
 use Rattle.octets.proofs.ListLaws.{within-low, within-high}
 use Rattle.plan.specs.declared.Flow.{Flow}
 use Rattle.state.specs.Image.{placeFrom, places}
-
-abbrev pub numbers : List Flow → List ℕ
-numbers fs = map (λ f. f .number) fs
+use Rattle.state.proofs.FlowPlaces.{numbers, no-place}
 
 -- the places from p on
 abbrev pub placesFrom : ℕ → ℕ → ℕ → List Flow → List ℕ
@@ -26,14 +24,6 @@ pub places-from : (m n : ℕ) (fs : List Flow) → places m n fs ≡ placesFrom 
 unfolding places
 places-from zero n fs = refl
 places-from (suc m) n fs = rw (places-from m (n + 1) fs)
-
-no-place : (n p : ℕ) (fs : List Flow) → some (eqb n) (numbers fs) ≡ false → placeFrom n p fs ≡ 0
-unfolding some placeFrom
-no-place n p [] e = refl
-no-place n p (f ∷ fs) e =
-    by-eq (f .number) n
-    (λ t here. absurd (false≢true (sym e ∙ rw (eq-eqb n (f .number) (sym here)))))
-    (λ t other. let r : _ = rw (ne-eqb n (f .number) (λ z. other (sym z))) at e in rw t (no-place n (p + 1) fs r))
 
 abbrev pub used : List ℕ → ℕ
 used l = count (leb 1) l
