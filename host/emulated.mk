@@ -15,6 +15,9 @@ START = ./start.sh
 CROSS = --target=x86_64-linux-gnu -isystem /usr/include/$(MACHINE)-linux-gnu -fPIE -pie --ld-path=$(TOOLS)/bin/ld.lld \
 	-B$(TOOLS)/lib -nodefaultlibs $(TOOLS)/lib/libc.so.6 $(TOOLS)/lib/libc_nonshared.a -Qunused-arguments
 
+# The tests in Rust are for the machine itself, and so is what they link.
+ARCHIVES += $(NATIVE)/libtmavolice.a $(NATIVE)/libprobe.a
+
 # A time on an emulator says nothing. So what is timed is the product compiled for this machine, against C by its own compilers.
 TIMES = native_times
 .PHONY: native_times
@@ -26,8 +29,8 @@ native_times:
 # Else stack that a caller by clang gives back before it jumps to a call would be taken off that call's.
 $(OUT)/stack: CFLAGS += -fno-optimize-sibling-calls
 
-# The tests in Rust are for the machine itself, and ask this program for each call.
-programs soak: $(OUT)/served
+# By this program a test in Rust makes calls of the library for x86-64.
+programs: $(OUT)/served
 
 $(OUT)/served: served/served.c ../include/tmavolice.h $(LIB) $(PROBE)
 	mkdir -p $(OUT)

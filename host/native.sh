@@ -1,8 +1,9 @@
 #!/bin/sh
-# The proved library compiled for a machine that is not x86-64, for `make bench` alone. The kit compiles for x86-64 only, and hands the
-# module that it made of the proved code to the clang of its toolchain. Here it is handed a toolchain whose clang compiles that module
-# for this machine, with the same options but for the target. Nothing else uses what this makes.
-# Usage: native.sh LIBRARY.a, from the folder host
+# A crate proved and written as a library for a machine that is not x86-64. The kit compiles for x86-64 only, and hands the module that
+# it made of the proved code to the clang of its toolchain. Here it is handed a toolchain whose clang compiles that module for this
+# machine, with the same options but for the target. The crates that it uses have been proved before.
+# Usage: native.sh CRATE LIBRARY.a, from the folder host
+crate=$1 library=$2
 machine=$(uname -m)
 kit=$(dirname "$(dirname "$(rt doc)")")
 own=$kit/on/$machine
@@ -28,8 +29,8 @@ for word; do
     --target=*) word=--target=$machine-unknown-linux-gnu ;;
     -march=*) continue ;;
     *.bc)
-        $tools/bin/clang --target=x86_64-unknown-linux-gnu -S -emit-llvm -O3 -Xclang -disable-llvm-passes -x ir "\$word" -o module.ll || exit
-        sed -e '/^target /d' -e 's/"[a-z]*-cpu"="[^"]*"//g' -e 's/"target-features"="[^"]*"//g' module.ll | cat $work/target - >native.ll
+        $tools/bin/clang --target=x86_64-unknown-linux-gnu -S -emit-llvm -O3 -Xclang -disable-llvm-passes -x ir "\$word" -o x86.ll || exit
+        sed -e '/^target /d' -e 's/"[a-z]*-cpu"="[^"]*"//g' -e 's/"target-features"="[^"]*"//g' x86.ll | cat $work/target - >native.ll
         word=native.ll
         ;;
     esac
@@ -39,11 +40,12 @@ exec $tools/bin/clang "\$@"
 END
 chmod +x "$work"/bin/*
 
-set -- "$1" --crate-name tmavolice "$root/crates/tmavolice/src/lib.rt" --extern "std=$own/rlib/std.rlib"
-for crate in $(sed -n 's/^tmavolice: *//p' "$root/crates.txt"); do
-    set -- "$@" --extern "$crate=$root/target/rlib/$crate.rlib"
+set -- --crate-name "$crate" "$root/crates/$crate/src/lib.rt" --extern "std=$own/rlib/std.rlib"
+used=$(sed -n "s/^$crate: *//p" "$root/crates.txt")
+for each in $used; do
+    set -- "$@" --extern "$each=$root/target/rlib/$each.rlib"
 done
 set -- "$@" -L "dependency=$root/target/rlib" -L "dependency=$own/rlib"
 set -- "$@" --antt-project "$kit/logic/antt-project.json" --logic-built "$own/logic-built"
-mkdir -p "$(dirname "$1")"
-"$own/bin/rattle" build --crate-type staticlib --toolchain "$work" -o "$@" >"$work/said" 2>&1 || { cat "$work/said"; exit 1; }
+mkdir -p "$(dirname "$library")"
+"$own/bin/rattle" build --crate-type staticlib --toolchain "$work" -o "$library" "$@" >"$work/said" 2>&1 || { cat "$work/said"; exit 1; }

@@ -1,5 +1,5 @@
 #!/bin/sh
-# Runs a program that is linked with the library: on x86-64 as it is, on another machine on the kit's emulator, with the kit's loader
+# Runs a program that is linked with the library for x86-64: there as it is, on another machine on the kit's emulator, with the kit's loader
 # and C library. The processor is a plain one: what later ones have for copies, the C library would use, and the emulator is slow at.
 # Usage: start.sh PROGRAM [WORD..]
 machine=$(uname -m)

@@ -21,7 +21,17 @@ pub fn is_taken(octets: &[u8], query: &Query) -> bool {
 /// What the library answers of the octets. Stops the test unless the model answers the same of the state that it reads
 /// there, if any.
 pub fn answer(octets: &[u8], state: Option<&State>, query: &Query) -> u64 {
-    let (library, model) = (query.library(octets), query.model(state));
+    agreed(query.library(octets), octets, state, query)
+}
+
+/// The same of the library for x86-64, on the emulator.
+#[cfg(not(target_arch = "x86_64"))]
+pub fn emulated_answer(octets: &[u8], state: Option<&State>, query: &Query) -> u64 {
+    agreed(query.emulated(octets), octets, state, query)
+}
+
+fn agreed(library: u64, octets: &[u8], state: Option<&State>, query: &Query) -> u64 {
+    let model = query.model(state);
     if library != model {
         let octets = report(octets);
         panic!("the library answers {library:#X}, the model {model:#X}, to {query:#X?} of\n{octets}");

@@ -19,6 +19,13 @@ impl Query {
         probe::look(octets, self.port, self.kind, self.vid, self.level, self.source)
     }
 
+    /// The same of the library for x86-64, on the emulator.
+    #[cfg(not(target_arch = "x86_64"))]
+    pub fn emulated(&self, octets: &[u8]) -> u64 {
+        let numbers = [self.port.into(), self.kind.into(), self.vid.into(), self.level.into(), self.source];
+        served::call(served::Call::Look, &numbers, served::Lent { input: octets, ..Default::default() })
+    }
+
     /// What the model says of the valid state whose image was read, or of none.
     pub fn model(&self, state: Option<&State>) -> u64 {
         state.map_or(0, |state| state.look(self.port, self.kind, self.vid, self.level, self.source))

@@ -12,7 +12,7 @@ use crate::unit_side::UnitSide;
 /// Plays the run of that seed with a model for each slip. The slips that it does not show are left over; of the others
 /// `tell` is told, with the number of the call that shows it.
 pub fn play(seed: u64, slips: &[Fault], mut tell: impl FnMut(Fault, usize)) -> Vec<Fault> {
-    let (mut driver, mut unit) = (Driver::start(seed), UnitSide::default());
+    let (mut driver, mut unit) = (Driver::start(seed), UnitSide::linked());
     let mut hidden: Vec<(Fault, ModelSide)> = slips.iter().map(|&slip| (slip, ModelSide::new(Some(slip)))).collect();
     for number in 1..=CALLS_A_RUN {
         let step = driver.next();

@@ -11,6 +11,8 @@ mod data;
 mod difference;
 mod draft;
 mod driver;
+#[cfg(not(target_arch = "x86_64"))]
+mod emulated;
 mod fields;
 mod frames;
 mod images;
@@ -35,4 +37,6 @@ mod unit_side;
 
 pub use coverage::Coverage;
 pub use difference::Difference;
+#[cfg(not(target_arch = "x86_64"))]
+pub use run::play_emulated;
 pub use run::{play, CALLS_A_RUN};

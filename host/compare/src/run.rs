@@ -14,7 +14,17 @@ pub const CALLS_A_RUN: usize = 1000;
 
 /// Plays the run of that seed up to the first difference, if there is one. The model makes a slip where it is told to.
 pub fn play(seed: u64, slip: Option<Fault>, coverage: &mut Coverage) -> Result<(), Box<Difference>> {
-    let (mut driver, mut unit, mut model) = (Driver::start(seed), UnitSide::default(), ModelSide::new(slip));
+    play_on(UnitSide::linked(), seed, slip, coverage)
+}
+
+/// The same with the library for x86-64, on the emulator.
+#[cfg(not(target_arch = "x86_64"))]
+pub fn play_emulated(seed: u64, slip: Option<Fault>, coverage: &mut Coverage) -> Result<(), Box<Difference>> {
+    play_on(UnitSide::emulated(), seed, slip, coverage)
+}
+
+fn play_on(mut unit: UnitSide, seed: u64, slip: Option<Fault>, coverage: &mut Coverage) -> Result<(), Box<Difference>> {
+    let (mut driver, mut model) = (Driver::start(seed), ModelSide::new(slip));
     for number in 1..=CALLS_A_RUN {
         let step = driver.next();
         let before = Scene::state_before(&step, driver.state());

@@ -5,10 +5,26 @@ use unit::{Answer, Outcome};
 use crate::call::{Call, Play, Shown, Step};
 use crate::lent::Lent;
 
-#[derive(Default)]
+/// Makes a call of that image, with that output.
+type Ask = fn(&mut [u8], &Call, &mut [u8]) -> Answer;
+
 pub(crate) struct UnitSide {
+    ask: Ask,
     image: Vec<u8>,
     calls: usize,
+}
+
+impl UnitSide {
+    /// The library that is linked.
+    pub(crate) fn linked() -> UnitSide {
+        UnitSide { ask: call, image: Vec::new(), calls: 0 }
+    }
+
+    /// The library for x86-64, on the emulator.
+    #[cfg(not(target_arch = "x86_64"))]
+    pub(crate) fn emulated() -> UnitSide {
+        UnitSide { ask: crate::emulated::call, ..UnitSide::linked() }
+    }
 }
 
 impl Play for UnitSide {
@@ -19,7 +35,7 @@ impl Play for UnitSide {
             self.image = octets.clone();
         }
         let (mut image, mut out) = (Lent::of(&self.image, self.calls % 16), Lent::of(before, self.calls % 11));
-        let answer = call(image.octets_mut(), &step.call, out.octets_mut());
+        let answer = (self.ask)(image.octets_mut(), &step.call, out.octets_mut());
         let is_unserved = matches!(answer.outcome(), Some(Outcome::Refused | Outcome::PlanFault));
         let breach = if !image.is_untouched_around() || !out.is_untouched_around() {
             Some("octets around the image or the output were touched")

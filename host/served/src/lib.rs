@@ -1,5 +1,5 @@
-//! The library's calls on a machine that can't link it: a program for x86-64, which runs on an emulator, makes each.
-//! The octets go there and come back; served.c begins with how.
+//! The calls of the library for x86-64 on a machine that can't link it: a program for x86-64, which runs on an emulator,
+//! makes each. The octets go there and come back; served.c begins with how.
 
 use std::cell::RefCell;
 use std::io::{self, Read, Write};

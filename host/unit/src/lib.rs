@@ -1,11 +1,6 @@
 //! The seven calls of the library, over slices of any length. An image is the host's, lent to each call.
 
 mod answer;
-#[cfg(target_arch = "x86_64")]
-#[path = "linked.rs"]
-mod calls;
-#[cfg(not(target_arch = "x86_64"))]
-#[path = "served.rs"]
 mod calls;
 
 pub use answer::{Answer, Outcome};

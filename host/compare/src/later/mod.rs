@@ -25,7 +25,7 @@ use crate::unit_side::UnitSide;
 
 /// Plays both runs of that seed on the unit.
 pub fn play(seed: u64, counts: &mut Counts) -> Result<(), String> {
-    both(seed, [UnitSide::default(), UnitSide::default()], |pair| {
+    both(seed, [UnitSide::linked(), UnitSide::linked()], |pair| {
         counts.add(pair);
         pair.check()
     })
@@ -40,7 +40,7 @@ pub fn play_slip(seed: u64, slip: Fault) -> Result<(), String> {
 /// were flipped, each of which has to be found.
 pub fn play_flips(seed: u64) -> Result<usize, String> {
     let (mut random, mut count) = (Random::of(seed), 0);
-    both(seed, [UnitSide::default(), UnitSide::default()], |pair| {
+    both(seed, [UnitSide::linked(), UnitSide::linked()], |pair| {
         pair.check()?;
         if pair.rewriting.is_none() {
             return Ok(());

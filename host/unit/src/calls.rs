@@ -1,4 +1,4 @@
-//! The calls by the library itself.
+//! The calls as functions of slices.
 
 use crate::Answer;
 
