@@ -1,12 +1,16 @@
-.PHONY: run test bench soak
+.PHONY: run test wrong bench soak
 
 # The paper's bench cases B1 to B12, played on the C entries of the proved library.
 run:
 	@$(MAKE) -s -C host run
 
-# The layout of every file, then every proof, must-fail edit and program, from nothing; then the host's tests.
+# The layout of every file; every proof and program, from nothing; every wrong program; then the host's tests.
 test:
 	@host/test.sh
+
+# Every wrong program, many in one check; or those of some crates, as in `make wrong CRATES="codec machine"`.
+wrong:
+	@$(MAKE) -s -C host wrong
 
 # The proved code against C, in one run: a line a case, ending in the ratio.
 bench:

@@ -1,17 +1,17 @@
 #!/bin/sh
-# Proves what a crate is made of, the crates that it uses and those that these use, as many at a time as there are processors, and says
-# so as each is proved. In crates.txt a crate stands below those that it uses.
-# Usage: prove.sh CRATE
+# Proves these crates, or all, and those that they use, as many at a time as there are processors, and says so as each is proved. In
+# crates.txt a crate stands below those that it uses.
+# Usage: prove.sh [CRATE..]
 cd "$(dirname "$0")/.." || exit 1
-used=$(awk -F: -v crate="$1" '
+wanted=$(awk -F: -v named="$*" '
     { name[NR] = $1; uses[NR] = $2 }
     END {
-        is_wanted[crate]
+        for (count = split(named, each, " "); count; count--) is_wanted[each[count]]
         for (line = NR; line; line--)
-            if (name[line] in is_wanted)
-                for (count = split(uses[line], each, " "); count; count--) is_wanted[each[count]]
-        for (line = 1; line <= NR; line++) if (name[line] in is_wanted && name[line] != crate) print name[line]
+            if (named == "" || name[line] in is_wanted)
+                for (count = split(name[line] " " uses[line], each, " "); count; count--) is_wanted[each[count]]
+        for (line = 1; line <= NR; line++) if (name[line] in is_wanted) print name[line]
     }' crates.txt)
 # shellcheck disable=SC2086
-set -- $used
+set -- $wanted
 rt check "$@" 2>&1 | host/progress.sh $#

@@ -1,14 +1,27 @@
 #!/bin/sh
-# Every check. First the layout of the files, every proof from nothing, every must-fail edit and every program (rt ci); then the host's
-# programs against the library as a host links it. The last line is the sum: 'N passed, M failed'.
+# Every check. First the layout of the files; then every proof, the paper's own wrong programs and every program, from nothing (rt ci);
+# then all wrong programs, many in one check; then the host's programs and tests, on the library as a host links it. Each says how far it
+# is. The last line is the sum: 'N passed, M failed'.
 cd "$(dirname "$0")/.." || exit 1
 out=$(mktemp) || exit 1
 trap 'rm -f "$out"' EXIT
+began=$(date +%s)
 passed=0 failed=0
+
+# The next part of the test.
+part() { # NAME
+    seconds=$(($(date +%s) - began))
+    echo "== $1 (after $((seconds / 60)) min $((seconds % 60)) s)"
+}
 
 # Adds what a run reported; a run that reported nothing has failed.
 add() { # PASSED FAILED
     passed=$((passed + ${1:-0})) failed=$((failed + ${2:-1}))
+}
+
+# The last line of what was written, if it is a sum.
+sum() {
+    sed -n '$s/^\([0-9]*\) passed, \([0-9]*\) failed$/\1 \2/p' "$out"
 }
 
 # One check, by its exit status.
@@ -23,13 +36,24 @@ writes() { # PROGRAM FILE
     diff "$2" "$out" && [ "$ended" -eq 0 ]
 }
 
+tests() {
+    (cd host && cargo test --release --offline "$@" 2>&1)
+}
+
+part 'The layout of the files'
 rt fmt --check || add 0 1
 
-rt ci >"$out" 2>&1
-cat "$out"
+part "Every proof, the paper's own wrong programs and every program, from nothing"
+rt ci 2>&1 | tee "$out" | host/progress.sh "$(grep -c : crates.txt)" "$(find crates -path '*/must-fail/*.edit' | wc -l)"
 # shellcheck disable=SC2046
-add $(sed -n '$s/^\([0-9]*\) passed, \([0-9]*\) failed$/\1 \2/p' "$out")
+add $(sum)
 
+part 'All wrong programs, many in one check'
+(cd host && cargo run --release --offline -q -p wrong 2>&1) | tee "$out"
+# shellcheck disable=SC2046
+add $(sum)
+
+part "The library and the host's programs"
 check make -s -C host library programs
 check make -s -C host check
 check host/start.sh target/host/header_c
@@ -39,11 +63,15 @@ check writes target/host/example host/example/stdout
 check host/quoted.sh README.md text host/run/stdout
 check host/quoted.sh docs/HOST.md c host/example/host.c
 
-(cd host && cargo test --release --offline 2>&1) >"$out"
-cat "$out"
+part "The host's tests"
+tests --no-run >"$out" || cat "$out"
+count=$(tests -- --list | grep -c ': test$')
+tests | tee "$out" | host/progress.sh "$count"
+grep '^[a-z]*: ' "$out"
 # shellcheck disable=SC2046
 add $(sed -n 's/^test result: .* \([0-9]*\) passed; \([0-9]*\) failed;.*/\1 \2/p' "$out" |
     awk '{ p += $1; f += $2 } END { if (NR) print p, f }')
 
+part 'All'
 echo "$passed passed, $failed failed"
 [ "$failed" -eq 0 ]
