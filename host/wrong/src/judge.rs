@@ -1,15 +1,15 @@
 //! Whether a wrong program was refused for what it is.
 
 use crate::owner::Wrong;
-use crate::said::{Fault, Ground, Said};
+use crate::said::{Fault, Ground, Said, Words};
 use crate::source::Function;
 
 #[derive(Debug)]
 pub enum Verdict {
-    /// Where, and why.
+    /// Where, and in what words.
     Refused {
         at: String,
-        ground: Ground,
+        words: Words,
     },
     NotRefused(String),
 }
@@ -38,7 +38,7 @@ pub fn judge(wrong: &Wrong, said: &Said, functions: &[Function]) -> Verdict {
 
 fn at_a_fact(verdict: Verdict) -> Verdict {
     match verdict {
-        Verdict::Refused { at, ground: Ground::Tactic } => {
+        Verdict::Refused { at, words: Words::Tactic } => {
             Verdict::NotRefused(format!("at {at} a tactic finds no way, and no fact is false"))
         }
         verdict => verdict,
@@ -80,9 +80,12 @@ fn of_definition(said: &Said) -> Verdict {
         .unwrap_or_else(|| Verdict::NotRefused("no law, example or function fails by itself".to_string()))
 }
 
-/// The first fact that is false, else the first equation that is left, else the first place where a tactic finds no way.
+/// The first place where something is refused for itself, of those in the plainest words.
 fn refused(faults: &[&Fault]) -> Option<Verdict> {
-    let with = |ground| faults.iter().find(|fault| fault.ground == ground);
-    let fault = with(Ground::FalseFact).or_else(|| with(Ground::Left)).or_else(|| with(Ground::Tactic))?;
-    Some(Verdict::Refused { at: format!("{}:{}", fault.file, fault.line), ground: fault.ground })
+    let itself = faults.iter().filter_map(|fault| match fault.ground {
+        Ground::Itself(words) => Some((words, fault)),
+        Ground::Used | Ground::Unfit => None,
+    });
+    let (words, fault) = itself.min_by_key(|(words, _)| *words)?;
+    Some(Verdict::Refused { at: format!("{}:{}", fault.file, fault.line), words })
 }

@@ -4,7 +4,7 @@ use std::sync::atomic::{AtomicUsize, Ordering};
 use std::time::Instant;
 
 use crate::judge::Verdict;
-use crate::said::Ground;
+use crate::said::Words;
 
 pub struct Report {
     began: Instant,
@@ -41,16 +41,15 @@ impl Default for Report {
 /// The line of one edit.
 pub fn line(name: &str, verdict: &Verdict, seconds: u64) -> String {
     match verdict {
-        Verdict::Refused { at, ground } => format!("{name}: refused at {at}, {} ({seconds} s)", words(*ground)),
+        Verdict::Refused { at, words } => format!("{name}: refused at {at}, {} ({seconds} s)", said(*words)),
         Verdict::NotRefused(why) => format!("{name}: NOT REFUSED: {why} ({seconds} s)"),
     }
 }
 
-fn words(ground: Ground) -> &'static str {
-    match ground {
-        Ground::FalseFact => "a false fact",
-        Ground::Left => "an equation that is left",
-        Ground::Tactic => "in a tactic's words",
-        Ground::Used | Ground::Unfit => "for no reason of its own",
+fn said(words: Words) -> &'static str {
+    match words {
+        Words::FalseFact => "a false fact",
+        Words::EquationLeft => "an equation that is left",
+        Words::Tactic => "in a tactic's words",
     }
 }

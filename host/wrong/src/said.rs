@@ -20,16 +20,23 @@ pub struct Fault {
 /// Why something was refused.
 #[derive(Clone, Copy, Debug, PartialEq, Eq)]
 pub enum Ground {
-    /// A fact has another type than is wanted, as 86400 expected and 86401 found.
-    FalseFact,
-    /// A tactic rewrote the goal, and leaves an equation of which there is no proof.
-    Left,
-    /// A tactic finds no way.
-    Tactic,
+    /// For itself.
+    Itself(Words),
     /// Something that it uses was not admitted.
     Used,
     /// The text does not fit the code: a need is not there, or one more is, another name is not there, or it can't be read.
     Unfit,
+}
+
+/// In what words something is refused for itself, the plainest first.
+#[derive(Clone, Copy, Debug, PartialEq, Eq, PartialOrd, Ord)]
+pub enum Words {
+    /// A fact has another type than is wanted, as 86400 expected and 86401 found.
+    FalseFact,
+    /// A tactic rewrote the goal, and leaves an equation of which there is no proof.
+    EquationLeft,
+    /// A tactic finds no way.
+    Tactic,
 }
 
 const TACTICS: [&str; 5] = ["cc", "omega", "rw", "search", "simp"];
@@ -67,7 +74,7 @@ fn error(line: &str, folder: &str) -> Option<Fault> {
 fn note(line: &str, folder: &str) -> Option<Fault> {
     let (place, _) = line.strip_prefix("note: ")?.split_once(": it is not proved that ")?;
     let (file, line) = placed(place, folder)?;
-    Some(Fault { file, line, ground: Ground::Tactic })
+    Some(Fault { file, line, ground: Ground::Itself(Words::Tactic) })
 }
 
 /// The file and the line of `FOLDER/FILE:LINE:COLUMN`.
@@ -89,13 +96,12 @@ fn ground(words: &str) -> Ground {
     if name.ends_with("-spec") || words.contains("that can be named from here") || words.contains("is not in scope") {
         return Ground::Unfit;
     }
-    if words.starts_with("give a proof of that as the last argument") {
-        return Ground::Left;
-    }
     let first = words.strip_prefix('`').and_then(|words| words.split('`').next());
-    if first.is_some_and(|name| TACTICS.contains(&name)) || words.starts_with("list the missing equation") {
-        Ground::Tactic
+    Ground::Itself(if words.starts_with("give a proof of that as the last argument") {
+        Words::EquationLeft
+    } else if first.is_some_and(|name| TACTICS.contains(&name)) || words.starts_with("list the missing equation") {
+        Words::Tactic
     } else {
-        Ground::FalseFact
-    }
+        Words::FalseFact
+    })
 }

@@ -3,7 +3,7 @@
 use wrong::edit::Files;
 use wrong::judge::{judge, Verdict};
 use wrong::owner::{Sources, Wrong};
-use wrong::said::{Ground, Said};
+use wrong::said::{Said, Words};
 
 const SOURCE: &str = "\
 fn callee(a: u8) -> u8 {
@@ -50,32 +50,32 @@ fn body(name: &str) -> Wrong {
     Wrong::Bodies(vec![format!("c::{name}")])
 }
 
-fn place(verdict: Verdict) -> (String, Ground) {
+fn place(verdict: Verdict) -> (String, Words) {
     match verdict {
-        Verdict::Refused { at, ground } => (at, ground),
+        Verdict::Refused { at, words } => (at, words),
         Verdict::NotRefused(why) => panic!("not refused: {why}"),
     }
 }
 
 #[test]
 fn a_false_fact_of_its_own_is_a_refusal() {
-    let (at, ground) = place(verdict(&body("callee"), &[TACTIC, UNFIT, FALSE_FACT, CALLEE_NOT, NOT_PROVED]));
-    assert_eq!((at.as_str(), ground), ("proofs/callee/Proof.antt:23", Ground::FalseFact));
+    let (at, words) = place(verdict(&body("callee"), &[TACTIC, UNFIT, FALSE_FACT, CALLEE_NOT, NOT_PROVED]));
+    assert_eq!((at.as_str(), words), ("proofs/callee/Proof.antt:23", Words::FalseFact));
 }
 
 #[test]
 fn so_is_an_equation_that_is_left() {
     let promise = Wrong::Promise("c::callee".to_string());
-    let (_, ground) = place(verdict(&promise, &[TACTIC, LEFT, CALLEE_NOT, NOT_PROVED]));
-    assert_eq!(ground, Ground::Left);
+    let (_, words) = place(verdict(&promise, &[TACTIC, LEFT, CALLEE_NOT, NOT_PROVED]));
+    assert_eq!(words, Words::EquationLeft);
 }
 
 #[test]
 fn so_are_a_tactics_words_for_a_body() {
-    let (at, ground) = place(verdict(&body("callee"), &[TACTIC, CALLEE_NOT, NOT_PROVED]));
-    assert_eq!((at.as_str(), ground), ("proofs/callee/Proof.antt:12", Ground::Tactic));
-    let (_, ground) = place(verdict(&body("callee"), &[BOUND, CALLEE_NOT, NOT_PROVED]));
-    assert_eq!(ground, Ground::Tactic);
+    let (at, words) = place(verdict(&body("callee"), &[TACTIC, CALLEE_NOT, NOT_PROVED]));
+    assert_eq!((at.as_str(), words), ("proofs/callee/Proof.antt:12", Words::Tactic));
+    let (_, words) = place(verdict(&body("callee"), &[BOUND, CALLEE_NOT, NOT_PROVED]));
+    assert_eq!(words, Words::Tactic);
     let (at, _) = place(verdict(&body("callee"), &[MADE, "fn c::callee: no proof: expected", NOT_PROVED]));
     assert_eq!(at, "src/lib.rt:1");
     let promise = Wrong::Promise("c::callee".to_string());
