@@ -1,8 +1,12 @@
-.PHONY: run test wrong bench soak
+.PHONY: run library test wrong bench soak
 
 # The paper's bench cases B1 to B12, played on the C entries of the proved library.
 run:
 	@$(MAKE) -s -C host run
+
+# The proved library for C, target/staticlib/libtmavolice.a, for x86-64; where the machine is another, target/native has one for it.
+library:
+	@$(MAKE) -s -C host library
 
 # The layout of every file; every proof and program, from nothing; every wrong program; then the host's tests.
 test:
