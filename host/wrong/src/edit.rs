@@ -55,16 +55,24 @@ pub fn of_crate(folder: &Path) -> Result<Vec<Edit>, String> {
     }
 }
 
+/// The pairs of the file; an old text without a new one is replaced by itself, which is no edit.
 pub fn swaps(text: &str) -> Vec<Swap> {
-    let (mut file, mut old, mut swaps) = (String::new(), String::new(), Vec::new());
+    let mut file = String::new();
+    let mut swaps: Vec<Swap> = Vec::new();
+    let mut waits = false;
     for line in text.lines() {
         if let Some(path) = line.strip_prefix("file: ") {
             file = path.to_string();
-        } else if let Some(text) = line.strip_prefix("old: ") {
-            old = text.to_string();
+        } else if let Some(old) = line.strip_prefix("old: ") {
+            swaps.push(Swap { file: file.clone(), old: old.to_string(), new: old.to_string() });
+            waits = true;
         } else if let Some(text) = line.strip_prefix("new:") {
             let new = text.strip_prefix(' ').unwrap_or(text).to_string();
-            swaps.push(Swap { file: file.clone(), old: std::mem::take(&mut old), new });
+            match swaps.last_mut().filter(|_| waits) {
+                Some(swap) => swap.new = new,
+                None => swaps.push(Swap { file: file.clone(), old: String::new(), new }),
+            }
+            waits = false;
         }
     }
     swaps

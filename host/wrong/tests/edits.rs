@@ -40,6 +40,9 @@ fn bad_edits_say_why() {
     );
     assert_eq!(fault("file: src/lib.rt\nold: = 1\nnew: = 1\n"), "it replaces nothing in src/lib.rt");
     assert_eq!(fault("file: src/lib.rt\n"), "it has no pair of 'old:' and 'new:'");
+    let half = "file: src/lib.rt\nold: = 1\nold: let b\nnew: let bb\n";
+    assert_eq!(fault(half), "it replaces nothing in src/lib.rt");
+    assert_eq!(fault("file: src/lib.rt\nold: = 1\nnew: = 3\nnew: = 4\n"), "it replaces nothing in src/lib.rt");
     let overlapping = "file: src/lib.rt\nold: a = 1\nnew: a = 3\nold: 1;\nnew: 4;\n";
     assert_eq!(fault(overlapping), "two of its 'old:' texts overlap");
 }
