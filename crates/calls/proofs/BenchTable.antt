@@ -7,11 +7,11 @@ use Rattle.octets.specs.Octets.{number, octets, lowNumber, lowOctets, movedUp, 
 use Rattle.octets.specs.Text.{text, digit, hexed, hex}
 use Rattle.codec.specs.FrameSet.{destination, source, group, typeBehind, vidOf, setOf, tagged, byTag, tagFits, placeOf, soam}
 use Rattle.codec.specs.FrameSet.{pduOf}
-use Rattle.replies.specs.Reply.{activeFlags, flagsBy, flags, header, timerTlv, carriesTimer, timerPart, replyPdu, replyOf}
-use Rattle.replies.specs.Reply.{replyFrame, tagOf, looped}
+use Rattle.codec_replies.specs.Reply.{activeFlags, flagsBy, flags, header, timerTlv, carriesTimer, timerPart, replyPdu, replyOf}
+use Rattle.codec_replies.specs.Reply.{replyFrame, tagOf, looped}
 use Rattle.codec.specs.Request.{octet, levelOf, versionOf, opcodeOf, offsetOf, typeOf, portMacOf, tlvsOf, isRequest, class2}
 use Rattle.codec.specs.Request.{addressed, wrongMac, wrongOffset, untimed, malformed, byType, requestOf, copiesOf, copied, readOf}
-use Rattle.tlvs.specs.Tlv.{ended, cut, followed, walk, parse, subtype, isTimer, badTlv, timers, badList, tlvOctets, unknown}
+use Rattle.codec_tlvs.specs.Tlv.{ended, cut, followed, walk, parse, subtype, isTimer, badTlv, timers, badList, tlvOctets, unknown}
 use Rattle.machine.specs.Machine.{activity, conditionOf, isOpen, key, keyOf, lasting, owed, goodSeconds, answered, admitted}
 use Rattle.machine.specs.Machine.{sameMp, refreshed, restarted, closed, decided, after, passes, turned, fateOf, dataEvent}
 use Rattle.machine.specs.Machine.{closedBy, withdrawn, allowedAfter, secondsLeft, statusOf}

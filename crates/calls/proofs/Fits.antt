@@ -17,12 +17,12 @@ use Rattle.codec.specs.declared.Place.the-variants.{NoSet, InSet}
 use Rattle.codec.specs.declared.Request.{Request}
 use Rattle.codec.specs.declared.Request.the-variants.{Malformed, Reserved, Activate, Deactivate, State as StateRequest}
 use Rattle.codec.specs.FrameSet.{placeOf, destination, source, pduOf}
-use Rattle.tlvs.specs.Tlv.{timers}
+use Rattle.codec_tlvs.specs.Tlv.{timers}
 use Rattle.codec.specs.Request.{malformed, byType, requestOf, copiesOf, levelOf, typeOf, tlvsOf}
 use Rattle.codec.specs.declared.Status.{Status}
-use Rattle.replies.specs.Reply.{tagOf, carriesTimer, timerPart, replyPdu}
+use Rattle.codec_replies.specs.Reply.{tagOf, carriesTimer, timerPart, replyPdu}
 use Rattle.codec.proofs.Short.{copies-short}
-use Rattle.replies.proofs.Lengths.{reply-short, malformed-reply-short, looped-length, frame-length, pdu-length}
+use Rattle.codec_replies.proofs.Lengths.{reply-short, malformed-reply-short, looped-length, frame-length, pdu-length}
 use Rattle.machine.specs.declared.Session.{Session}
 use Rattle.machine.specs.declared.Machine.the-variants.{Inactive}
 use Rattle.machine.specs.declared.Fate.{Fate}

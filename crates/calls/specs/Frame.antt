@@ -14,7 +14,7 @@ use Rattle.codec.specs.declared.Request.{Request}
 use Rattle.codec.specs.declared.Request.the-variants.{Malformed, Reserved, Activate, Deactivate, State as StateRequest}
 use Rattle.codec.specs.FrameSet.{placeOf, destination, source, soam, pduOf}
 use Rattle.codec.specs.Request.{isRequest, addressed, requestOf, copiesOf, levelOf, typeOf}
-use Rattle.replies.specs.Reply.{replyFrame, replyPdu, tagOf, looped}
+use Rattle.codec_replies.specs.Reply.{replyFrame, replyPdu, tagOf, looped}
 use Rattle.machine.specs.declared.Session.{Session}
 use Rattle.machine.specs.declared.Machine.{Machine}
 use Rattle.machine.specs.declared.Change.{Change}

@@ -3,7 +3,7 @@ use mathlib.Core.List.{List, []}
 use Prim.Native.Nat.{ℕ}
 use Rattle.octets.specs.Octets.{octets}
 use Rattle.octets.specs.Lists.{without}
-use Rattle.replies.specs.Reply.{replyFrame, replyPdu}
+use Rattle.codec_replies.specs.Reply.{replyFrame, replyPdu}
 use Rattle.machine.specs.declared.Session.{Session}
 use Rattle.machine.specs.declared.Machine.the-variants.{Inactive}
 use Rattle.machine.specs.Machine.{keyOf, statusOf}

@@ -7,9 +7,9 @@ use native.Mathlib.Omega.{arith}
 use lib.ListN.{length, take, drop, length-drop, take-append-drop}
 use lib.Seq.{length-take-le}
 use Rattle.octets.proofs.Laws.{Octets, octets-drop}
-use Rattle.tlvs.proofs.Short.{good-list, parse-short}
-use Rattle.tlvs.proofs.Walk.{drop-to}
-use Rattle.tlvs.proofs.Written.{Listed, parse-listed}
+use Rattle.codec_tlvs.proofs.Short.{good-list, parse-short}
+use Rattle.codec_tlvs.proofs.Walk.{drop-to}
+use Rattle.codec_tlvs.proofs.Written.{Listed, parse-listed}
 use Rattle.codec.specs.declared.Addressed.{Addressed}
 use Rattle.codec.specs.Request.{octet, levelOf, versionOf, opcodeOf, offsetOf, tlvsOf, malformed}
 use Rattle.codec.specs.Later.{Parts, Laid, pduIn}

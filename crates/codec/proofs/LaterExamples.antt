@@ -7,8 +7,8 @@ use native.Mathlib.Omega.{arith}
 use lib.ListN.{length}
 use Rattle.octets.specs.Octets.{octets}
 use Rattle.octets.specs.Text.{hex, hexed, text, digit}
-use Rattle.tlvs.specs.Tlv.{Tlv, subtype, tlvOctets}
-use Rattle.tlvs.specs.Added.{Whole, AllWhole, Added, ended, kept, new, tlvList, isUnknown}
+use Rattle.codec_tlvs.specs.Tlv.{Tlv, subtype, tlvOctets}
+use Rattle.codec_tlvs.specs.Additions.{Whole, AllWhole, Added, ended, kept, new, tlvList, isUnknown}
 use Rattle.codec.specs.Later.{Parts, Laid, LaterParts, pduIn}
 
 -- octets as they are written

@@ -8,9 +8,9 @@ use lib.ListN.{length, drop, getD}
 use borrow.Author.Tests.{le-leb, le-ltb, ne-eqb}
 use Rattle.octets.specs.Octets.{number}
 use Rattle.octets.specs.Lists.{some}
-use Rattle.tlvs.specs.Tlv.{badTlv, timers, badList}
-use Rattle.tlvs.specs.Added.{Added, unknowns}
-use Rattle.tlvs.proofs.AddedLaws.{added-timers, added-bad, added-unknowns}
+use Rattle.codec_tlvs.specs.Tlv.{badTlv, timers, badList}
+use Rattle.codec_tlvs.specs.Additions.{Added, unknowns}
+use Rattle.codec_tlvs.proofs.AddedLaws.{added-timers, added-bad, added-unknowns}
 use Rattle.codec.specs.declared.Addressed.{Addressed}
 use Rattle.codec.specs.declared.Addressed.the-variants.{Elsewhere, Unicast, Multicast}
 use Rattle.codec.specs.Request.{levelOf, typeOf, portMacOf, tlvsOf, addressed}

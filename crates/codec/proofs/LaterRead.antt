@@ -9,11 +9,11 @@ use lib.Seq.{drop-append-le, drop-at}
 use Rattle.octets.specs.Octets.{number}
 use Rattle.octets.specs.Lists.{some}
 use Rattle.octets.proofs.Laws.{number-on}
-use Rattle.tlvs.specs.Tlv.{badTlv}
-use Rattle.tlvs.specs.Added.{tlvList, unknowns}
-use Rattle.tlvs.proofs.Short.{good-list}
-use Rattle.tlvs.proofs.Written.{parse-list}
-use Rattle.tlvs.proofs.AddedLaws.{unknown-list}
+use Rattle.codec_tlvs.specs.Tlv.{badTlv}
+use Rattle.codec_tlvs.specs.Additions.{tlvList, unknowns}
+use Rattle.codec_tlvs.proofs.Short.{good-list}
+use Rattle.codec_tlvs.proofs.Written.{parse-list}
+use Rattle.codec_tlvs.proofs.AddedLaws.{unknown-list}
 use Rattle.codec.specs.declared.Addressed.{Addressed}
 use Rattle.codec.specs.Request.{octet, levelOf, versionOf, opcodeOf, offsetOf, typeOf, portMacOf, tlvsOf, malformed, copiesOf}
 use Rattle.codec.specs.Later.{Parts, Laid, pduIn}

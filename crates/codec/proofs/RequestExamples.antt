@@ -6,8 +6,8 @@ use Prim.Native.String.{String}
 use Rattle.octets.specs.Octets.{number, octets}
 use Rattle.octets.specs.Lists.{some}
 use Rattle.octets.specs.Text.{hex, hexed, text, digit}
-use Rattle.tlvs.specs.Tlv.{Parsed, ended, cut, followed, walk, parse, subtype, isTimer, badTlv, timers, badList}
-use Rattle.tlvs.specs.Tlv.{tlvOctets, unknown}
+use Rattle.codec_tlvs.specs.Tlv.{Parsed, ended, cut, followed, walk, parse, subtype, isTimer, badTlv, timers, badList}
+use Rattle.codec_tlvs.specs.Tlv.{tlvOctets, unknown}
 use Rattle.codec.specs.declared.Addressed.{Addressed}
 use Rattle.codec.specs.declared.Addressed.the-variants.{Elsewhere, Unicast, Multicast}
 use Rattle.codec.specs.declared.Request.{Request}

@@ -10,11 +10,11 @@ use lib.Seq.{drop-append-le}
 use borrow.Author.Tests.{le-leb, ne-eqb}
 use Rattle.octets.proofs.Cases.{by-eq}
 use Rattle.octets.proofs.Laws.{number-on}
-use Rattle.tlvs.specs.declared.Summary.{Summary}
-use Rattle.tlvs.specs.Tlv.{parse, timers, badList}
-use Rattle.tlvs.specs.Walk.{summaryOf}
-use Rattle.tlvs.proofs.Short.{parse-short}
-use Rattle.tlvs.proofs.After.{parse-on, summary-bad, summary-unknown, summary-timer}
+use Rattle.codec_tlvs.specs.declared.Summary.{Summary}
+use Rattle.codec_tlvs.specs.Tlv.{parse, timers, badList}
+use Rattle.codec_tlvs.specs.Walk.{summaryOf}
+use Rattle.codec_tlvs.proofs.Short.{parse-short}
+use Rattle.codec_tlvs.proofs.After.{parse-on, summary-bad, summary-unknown, summary-timer}
 use Rattle.codec.specs.declared.Addressed.{Addressed}
 use Rattle.codec.specs.declared.Addressed.the-variants.{Elsewhere, Unicast, Multicast}
 use Rattle.codec.specs.declared.Request.{Request}

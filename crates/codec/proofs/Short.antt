@@ -7,8 +7,8 @@ use native.Mathlib.Omega.{arith}
 use lib.Dec.{ltb, eqb}
 use lib.ListN.{length, drop, length-drop}
 use borrow.Author.Tests.{ltb-false, eqb-true, not-false}
-use Rattle.tlvs.specs.Tlv.{badList}
-use Rattle.tlvs.proofs.Short.{parse-short, or-none, good-list}
+use Rattle.codec_tlvs.specs.Tlv.{badList}
+use Rattle.codec_tlvs.proofs.Short.{parse-short, or-none, good-list}
 use Rattle.codec.specs.declared.Addressed.{Addressed}
 use Rattle.codec.specs.Request.{versionOf, offsetOf, tlvsOf, wrongMac, wrongOffset, untimed, malformed, copiesOf}
 

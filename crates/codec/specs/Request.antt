@@ -10,7 +10,7 @@ use Rattle.codec.specs.declared.Addressed.the-variants.{Elsewhere, Unica
 use Rattle.codec.specs.declared.Request.{Request}
 use Rattle.codec.specs.declared.Request.the-variants.{Malformed, Reserved, Activate, Deactivate, State}
 use Rattle.codec.specs.declared.Read.{Read}
-use Rattle.tlvs.specs.Tlv.{Parsed, parse, timers, badList, unknown}
+use Rattle.codec_tlvs.specs.Tlv.{Parsed, parse, timers, badList, unknown}
 use Rattle.codec.specs.FrameSet.{soam, pduOf}
 
 -- PDU octets, from 1

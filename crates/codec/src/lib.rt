@@ -1,6 +1,6 @@
 // The message layer, read: a frame's place, the PDU of a request.
 mod frame;
-mod reading;
+mod pdu;
 mod requests;
 
 pub use frame::destination_of;
@@ -8,12 +8,12 @@ pub use frame::is_group;
 pub use frame::is_soam;
 pub use frame::place_of;
 pub use frame::source_of;
-pub use reading::first_tlv;
-pub use reading::read_request;
-pub use requests::addressed_to;
-pub use requests::is_request;
-pub use requests::level_of;
-pub use requests::type_of;
+pub use pdu::addressed_to;
+pub use pdu::is_request;
+pub use pdu::level_of;
+pub use pdu::type_of;
+pub use requests::first_tlv;
+pub use requests::read_request;
 
 // A frame set of a port. Its kind is 1 untagged, 2 C-tagged, 3 S-tagged; its VID is 0 where it is untagged.
 pub struct FrameSet {

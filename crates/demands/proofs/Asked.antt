@@ -15,7 +15,7 @@ use Rattle.codec.specs.declared.Request.the-variants.{Activate, State as StateR
 use Rattle.codec.specs.declared.Status.{Status}
 use Rattle.codec.specs.FrameSet.{source, pduOf}
 use Rattle.codec.specs.Request.{levelOf, typeOf, copiesOf}
-use Rattle.replies.specs.Reply.{replyFrame, replyPdu, tagOf}
+use Rattle.codec_replies.specs.Reply.{replyFrame, replyPdu, tagOf}
 use Rattle.plan.specs.Plan.{portNumbered}
 use Rattle.calls.specs.Frame.{Arrived, pdu}
 use Rattle.calls.specs.Calls.{frame}

@@ -15,7 +15,7 @@ use Rattle.machine.specs.Machine.{keyOf, isOpen, after}
 use Rattle.state.specs.State.{State, withSessions, isAllowed, noticeDue, valid}
 use Rattle.calls.specs.Frame.{Arrived, ownKey, own, changed}
 use Rattle.octets.proofs.ListLaws.{none-fails}
-use Rattle.requests.proofs.Changes.{Fitting, Puts}
+use Rattle.calls_requests.proofs.Changes.{Fitting, Puts}
 use Rattle.demands.specs.Machine.{Machine, nothing}
 use Rattle.demands.specs.World.{World, become}
 use Rattle.demands.proofs.Shows.{Shows, resting, machineBy, machineIn}

@@ -16,7 +16,7 @@ use Rattle.codec.specs.declared.Addressed.{Addressed}
 use Rattle.codec.specs.declared.Addressed.the-variants.{Elsewhere, Unicast, Multicast}
 use Rattle.codec.specs.FrameSet.{placeOf}
 use Rattle.codec.proofs.Places.{tag-whole}
-use Rattle.replies.specs.Reply.{tagOf}
+use Rattle.codec_replies.specs.Reply.{tagOf}
 use Rattle.plan.specs.declared.Port.{Port}
 use Rattle.plan.specs.declared.Flow.{Flow}
 use Rattle.plan.specs.Plan.{Plan, portNumbered, flowOfSet, inPlan}
@@ -27,7 +27,7 @@ use Rattle.calls.specs.Answer.{leaves}
 use Rattle.calls.specs.Frame.{Arrived, forMp, byWhom, inFlow, inPlace, frameServed}
 use Rattle.calls.specs.Calls.{noSuchPlace, badLength}
 use Rattle.calls.proofs.PlaceSets.{InPlace, in-place}
-use Rattle.requests.proofs.Parts.{source-fits}
+use Rattle.calls_requests.proofs.Parts.{source-fits}
 use Rattle.demands.specs.World.{World, room}
 use Rattle.demands.specs.Frame.{leaves as leavesIn, byWhom as byWhomIn, inFlow as inFlowIn, inPlace as inPlaceIn}
 use Rattle.demands.specs.Frame.{frameServed as frameServedIn}

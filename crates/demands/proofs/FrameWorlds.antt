@@ -12,7 +12,7 @@ use Rattle.codec.specs.declared.Request.{Request}
 use Rattle.codec.specs.declared.Request.the-variants.{Malformed, Reserved, Activate, Deactivate, State as StateRequest}
 use Rattle.codec.specs.FrameSet.{source, destination}
 use Rattle.codec.specs.Request.{requestOf, levelOf}
-use Rattle.replies.specs.Reply.{tagOf}
+use Rattle.codec_replies.specs.Reply.{tagOf}
 use Rattle.machine.specs.declared.Fate.{Fate}
 use Rattle.machine.specs.declared.Fate.the-variants.{Forward, Drop, Loop}
 use Rattle.plan.specs.Plan.{inPlan}

@@ -17,7 +17,7 @@ use Rattle.codec.specs.declared.Place.{Place}
 use Rattle.codec.specs.declared.Place.the-variants.{NoSet, InSet}
 use Rattle.codec.specs.FrameSet.{uni, enni, untagged, c-tagged, s-tagged, c-tag, s-tag, vidOf, setOf}
 use Rattle.codec.specs.FrameSet.{destination, source, group, typeBehind, soam, pduOf, placeOf, byTag, tagged}
-use Rattle.replies.specs.Reply.{tagOf}
+use Rattle.codec_replies.specs.Reply.{tagOf}
 
 module _ (head : List ℕ) (tags : ℕ) (long : length head ≡ 14 + tags) where
   -- a number that lies in the head

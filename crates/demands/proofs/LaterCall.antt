@@ -11,8 +11,8 @@ use Rattle.codec.specs.declared.Request.{Request}
 use Rattle.codec.specs.declared.Request.the-variants.{Malformed, Reserved, Activate, Deactivate, State as StateRequest}
 use Rattle.codec.specs.FrameSet.{destination, source}
 use Rattle.codec.specs.Request.{levelOf, typeOf, requestOf, copiesOf}
-use Rattle.tlvs.specs.Tlv.{Tlv}
-use Rattle.replies.specs.Reply.{replyFrame, replyPdu, tagOf}
+use Rattle.codec_tlvs.specs.Tlv.{Tlv}
+use Rattle.codec_replies.specs.Reply.{replyFrame, replyPdu, tagOf}
 use Rattle.plan.specs.Plan.{portNumbered}
 use Rattle.calls.specs.declared.Answer.{Answer}
 use Rattle.calls.specs.declared.Answer.the-variants.{Refused, Forwarded, Dropped, Replied, RepliedForwarded}

@@ -16,12 +16,12 @@ use Rattle.codec.specs.declared.Addressed.the-variants.{Elsewhere, Unicast, Mul
 use Rattle.codec.specs.declared.Request.the-variants.{Malformed, Reserved, Activate, Deactivate, State as StateRequest}
 use Rattle.codec.specs.FrameSet.{destination, source, placeOf}
 use Rattle.codec.specs.Request.{levelOf, typeOf, isRequest, malformed, requestOf, byType, copiesOf}
-use Rattle.tlvs.specs.Tlv.{Tlv}
-use Rattle.tlvs.specs.Added.{tlvList, unknowns}
+use Rattle.codec_tlvs.specs.Tlv.{Tlv}
+use Rattle.codec_tlvs.specs.Additions.{tlvList, unknowns}
 use Rattle.codec.specs.Later.{Parts, pduIn, Laid, LaterParts}
 use Rattle.codec.proofs.LaterRead.{opcode-is, long, copies-are}
 use Rattle.codec.proofs.LaterLaws.{later-level, later-type, later-addressed, later-formed, later-request}
-use Rattle.replies.specs.Reply.{tagOf}
+use Rattle.codec_replies.specs.Reply.{tagOf}
 use Rattle.plan.specs.Plan.{portNumbered}
 use Rattle.calls.specs.Frame.{Arrived, pdu, mpOf, forMp, goesOn}
 use Rattle.calls.specs.Calls.{badLength}

@@ -6,7 +6,7 @@ use lib.ListN.{drop}
 use Rattle.octets.specs.Octets.{number, octets}
 use Rattle.codec.specs.declared.FrameSet.{FrameSet}
 use Rattle.codec.specs.FrameSet.{source}
-use Rattle.replies.specs.Reply.{tagOf}
+use Rattle.codec_replies.specs.Reply.{tagOf}
 use Rattle.machine.specs.declared.Session.{Session}
 use Rattle.machine.specs.declared.Machine.the-variants.{Active}
 use Rattle.machine.specs.Machine.{isOpen}
@@ -16,7 +16,7 @@ use Rattle.octets.proofs.ListLaws.{none-fails}
 use Rattle.state.proofs.Rules.{Valid, valid-parts}
 use Rattle.state.proofs.TableLaws.{each}
 use Rattle.calls.specs.Frame.{Arrived, ownKey, own}
-use Rattle.requests.proofs.Own.{Had, machine-had}
+use Rattle.calls_requests.proofs.Own.{Had, machine-had}
 use Rattle.demands.specs.World.{World}
 use Rattle.demands.specs.Frame.{own as ownIn}
 use Rattle.demands.proofs.Shows.{SmallSet, Shows, machineIn, machineOn, machineAt}

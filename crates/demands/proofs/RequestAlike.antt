@@ -23,7 +23,7 @@ use Rattle.calls.specs.declared.Answer.the-variants.{Forwarded, Dropped}
 use Rattle.calls.specs.Answer.{leaves}
 use Rattle.calls.specs.Frame.{Arrived, pdu, ownKey, own, ownAction, goesOn, newSession, changed, replied, decides}
 use Rattle.calls.specs.Frame.{machineServed, answers, requestServed}
-use Rattle.requests.proofs.Changes.{decided-puts}
+use Rattle.calls_requests.proofs.Changes.{decided-puts}
 use Rattle.demands.specs.Machine.{Step, gets, isProhibited}
 use Rattle.demands.specs.World.{World, become, room}
 use Rattle.demands.specs.Frame.{leaves as leavesIn, replied as repliedIn, stepped, answers as answersIn}

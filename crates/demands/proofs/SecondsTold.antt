@@ -8,7 +8,7 @@ use Rattle.codec.specs.declared.FrameSet.{FrameSet}
 use Rattle.codec.specs.declared.Request.the-variants.{Activate, State as StateRequest}
 use Rattle.codec.specs.FrameSet.{source, pduOf}
 use Rattle.codec.specs.Request.{levelOf, typeOf, copiesOf}
-use Rattle.replies.specs.Reply.{replyFrame, replyPdu, tagOf}
+use Rattle.codec_replies.specs.Reply.{replyFrame, replyPdu, tagOf}
 use Rattle.plan.specs.Plan.{portNumbered}
 use Rattle.calls.specs.Calls.{Call, frame}
 use Rattle.demands.specs.Machine.{Machine, Owed, inactive, active, isProhibited, statusOf}

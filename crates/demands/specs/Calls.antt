@@ -5,7 +5,7 @@ use Prim.Native.Nat.{ℕ}
 use lib.Dec.{eqb}
 use Rattle.octets.specs.Lists.{within}
 use Rattle.codec.specs.FrameSet.{external, cen, setOf}
-use Rattle.replies.specs.Reply.{replyFrame, replyPdu}
+use Rattle.codec_replies.specs.Reply.{replyFrame, replyPdu}
 use Rattle.machine.specs.Time.{elapsed, jumped}
 use Rattle.plan.specs.declared.Port.{Port}
 use Rattle.plan.specs.Plan.{portNumbered, flowNumbered, inPlan}

@@ -13,7 +13,7 @@ use Rattle.codec.specs.declared.Request.{Request}
 use Rattle.codec.specs.declared.Request.the-variants.{Malformed, Reserved, Activate, Deactivate, State as StateRequest}
 use Rattle.codec.specs.FrameSet.{placeOf, destination, source, soam}
 use Rattle.codec.specs.Request.{requestOf, copiesOf, levelOf, typeOf}
-use Rattle.replies.specs.Reply.{replyFrame, replyPdu, tagOf, looped}
+use Rattle.codec_replies.specs.Reply.{replyFrame, replyPdu, tagOf, looped}
 use Rattle.machine.specs.declared.Fate.{Fate}
 use Rattle.machine.specs.declared.Fate.the-variants.{Forward, Drop, Loop}
 use Rattle.plan.specs.declared.Port.{Port}

@@ -10,7 +10,7 @@ use Rattle.codec.specs.declared.FrameSet.{FrameSet}
 use Rattle.codec.specs.declared.Place.the-variants.{InSet}
 use Rattle.codec.specs.FrameSet.{destination, placeOf}
 use Rattle.codec.specs.Request.{typeOf, malformed}
-use Rattle.tlvs.specs.Tlv.{Tlv}
+use Rattle.codec_tlvs.specs.Tlv.{Tlv}
 use Rattle.plan.specs.Plan.{portNumbered, inPlan}
 use Rattle.calls.specs.declared.Answer.{Answer}
 use Rattle.calls.specs.declared.Answer.the-variants.{Refused, Forwarded, Dropped, Replied, RepliedForwarded}
@@ -21,7 +21,7 @@ use Rattle.demands.specs.World.{World}
 use Rattle.demands.specs.Frame.{isFor, arrived}
 use Rattle.demands.specs.Calls.{call}
 use Rattle.demands.specs.Runs.{Seen}
-use Rattle.tlvs.specs.Added.{tlvList, unknowns}
+use Rattle.codec_tlvs.specs.Additions.{tlvList, unknowns}
 use Rattle.demands.specs.Later.{Later}
 
 -- ---- which requests

@@ -1,6 +1,6 @@
 // The machine layer: the table of twenty-four entries, one session's step, time. By value only.
 mod request;
-mod running;
+mod sessions;
 mod table;
 mod time;
 mod traffic;
@@ -8,11 +8,11 @@ mod traffic;
 pub use request::after;
 pub use request::decide;
 pub use request::status_after;
-pub use running::lasting;
-pub use running::owed;
-pub use running::seconds_left;
-pub use running::status_of;
-pub use running::withdrawn;
+pub use sessions::lasting;
+pub use sessions::owed;
+pub use sessions::seconds_left;
+pub use sessions::status_of;
+pub use sessions::withdrawn;
 pub use table::action;
 pub use table::allowed_after;
 pub use table::condition_of;

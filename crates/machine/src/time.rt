@@ -1,7 +1,7 @@
 // The clock, and a session as time passes.
 use crate::Session;
-use crate::running::lasting;
-use crate::running::owed;
+use crate::sessions::lasting;
+use crate::sessions::owed;
 ghost use mathlib.Core.Path.{_≡_};
 ghost use Rattle.machine.specs.Time.{elapsed, jumped, ticked};
 

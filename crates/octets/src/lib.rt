@@ -1,6 +1,6 @@
 // Numbers in network order, and runs of octets. Knows no protocol.
 mod low;
-mod moved;
+mod moves;
 mod number;
 mod run;
 
@@ -9,9 +9,9 @@ pub use low::low4;
 pub use low::low6;
 pub use low::low8;
 pub use low::put_low4;
-pub use moved::clear;
-pub use moved::move_down;
-pub use moved::move_up;
+pub use moves::clear;
+pub use moves::move_down;
+pub use moves::move_up;
 pub use number::number2;
 pub use number::number4;
 pub use number::number6;

@@ -12,7 +12,7 @@ use borrow.Author.Tests.{eq-eqb, ne-eqb}
 use Rattle.octets.specs.Lists.{count}
 use Rattle.plan.specs.declared.Flow.{Flow}
 use Rattle.plan.specs.Plan.{mpsOf, mpCount}
-use Rattle.plan.specs.Held.{heldPorts, heldFlows}
+use Rattle.plan.specs.Records.{heldPorts, heldFlows}
 
 -- what `held` is of, by its two clauses
 pub record Rows {A : Type 0} (number : A → ℕ) (held : List A → List A) : Type 0 where

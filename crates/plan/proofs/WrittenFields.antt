@@ -14,7 +14,7 @@ use Rattle.octets.proofs.Cases.{by-lt}
 use Rattle.octets.proofs.ListLaws.{every-such}
 use Rattle.plan.specs.Line.{Line, unreadable, portLine, flowLine, mpLine, tab, lf, joined, parted}
 use Rattle.plan.specs.Line.{portKinds, flowKinds, mpKinds}
-use Rattle.plan.specs.Written.{decimal, hexDigit, hexadecimal, wordAt, fieldsOf, tabbed, lineText}
+use Rattle.plan.specs.WrittenPlan.{decimal, hexDigit, hexadecimal, wordAt, fieldsOf, tabbed, lineText}
 use Rattle.plan.proofs.WrittenNumbers.{every-join}
 
 -- has the text no such octet?

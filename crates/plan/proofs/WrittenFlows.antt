@@ -13,7 +13,7 @@ use Rattle.codec.specs.FrameSet.{untagged, c-tagged, s-tagged, setOf}
 use Rattle.plan.specs.declared.Flow.{Flow}
 use Rattle.plan.specs.Plan.{Plan, noFlow, portNumbered, flowNumbered, flowOfSet, flowKey, inPlan, goodKind, goodFlow, soFar}
 use Rattle.plan.specs.PlanText.{reasonOf, added}
-use Rattle.plan.specs.Written.{flowRecord}
+use Rattle.plan.specs.WrittenPlan.{flowRecord}
 use Rattle.plan.proofs.Fair.{fairLine}
 use Rattle.plan.proofs.Kept.{Kept, kept, GoodFlow, good-flow}
 use Rattle.plan.proofs.Faultless.{flow-clears}

@@ -14,7 +14,7 @@ use Rattle.plan.specs.declared.Flow.{Flow}
 use Rattle.plan.specs.Plan.{Plan, up, mip, noFlow, flowNumbered, inPlan, mpAt, mpsOf, mpCount, goodFlow, soFar}
 use Rattle.plan.specs.Line.{mpLine}
 use Rattle.plan.specs.PlanText.{reasonOf, withMp, added}
-use Rattle.plan.specs.Written.{mpsFrom}
+use Rattle.plan.specs.WrittenPlan.{mpsFrom}
 use Rattle.plan.proofs.Fair.{fairLine}
 use Rattle.plan.proofs.Kept.{Kept, kept, GoodFlow, good-flow}
 use Rattle.plan.proofs.Faultless.{mp-clears}

@@ -16,7 +16,7 @@ use Rattle.plan.specs.Plan.{Plan, up, mip, goodVid}
 use Rattle.plan.specs.Line.{Line, unreadable, portLine, flowLine, mpLine, field, listed, lineOf, byWord}
 use Rattle.plan.specs.Line.{portKinds, flowKinds, mpKinds, asPort, asFlow, asMp}
 use Rattle.plan.specs.PlanText.{reasonOf}
-use Rattle.plan.specs.Written.{wordAt, fieldsOf, lineText}
+use Rattle.plan.specs.WrittenPlan.{wordAt, fieldsOf, lineText}
 use Rattle.plan.proofs.Fair.{fairLine}
 use Rattle.plan.proofs.Faultless.{FaultlessFlow, FaultlessMp, port-cleared, flow-cleared, mp-cleared}
 use Rattle.plan.proofs.WrittenNumbers.{decimal-back, decimal-is, address-back, address-is}

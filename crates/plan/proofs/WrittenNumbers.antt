@@ -13,7 +13,7 @@ use Rattle.octets.specs.Text.{digit}
 use Rattle.octets.proofs.Same.{both-true}
 use Rattle.octets.proofs.Cases.{by-lt}
 use Rattle.plan.specs.Line.{isDigit, isNumber, isAddress, spelled, numberIn, addressIn}
-use Rattle.plan.specs.Written.{decimal, hexDigit, hexadecimal}
+use Rattle.plan.specs.WrittenPlan.{decimal, hexDigit, hexadecimal}
 
 pub every-join : {A : Type 0} (test : A → Bool) (a b : List A) → every test a ≡ true → every test b ≡ true
     → every test (a ++ b) ≡ true

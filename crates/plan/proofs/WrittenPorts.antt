@@ -9,7 +9,7 @@ use Rattle.octets.proofs.PutLaws.{put-last}
 use Rattle.plan.specs.declared.Port.{Port}
 use Rattle.plan.specs.Plan.{Plan, noPort, portNumbered, inPlan, goodPort, soFar}
 use Rattle.plan.specs.PlanText.{reasonOf, added}
-use Rattle.plan.specs.Written.{portRecord}
+use Rattle.plan.specs.WrittenPlan.{portRecord}
 use Rattle.plan.proofs.Fair.{fairLine}
 use Rattle.plan.proofs.Kept.{Kept, kept, GoodPort, good-port}
 use Rattle.plan.proofs.Faultless.{port-clears}

@@ -13,7 +13,7 @@ use Rattle.plan.specs.declared.Flow.{Flow}
 use Rattle.plan.specs.Plan.{Plan, mpsOf, mpCount, goodFlow, keepsRules, soFar}
 use Rattle.plan.specs.Line.{lf, parted}
 use Rattle.plan.specs.PlanText.{planned, finished, readLines, emptyPlan, planIn}
-use Rattle.plan.specs.Written.{portRecord, flowRecord, mpsFrom, mpRecords, recordsOf, textOf}
+use Rattle.plan.specs.WrittenPlan.{portRecord, flowRecord, mpsFrom, mpRecords, recordsOf, textOf}
 use Rattle.plan.proofs.Kept.{Kept, kept, rules-so-far, good-flow}
 use Rattle.plan.proofs.Room.{ports-few, flows-few}
 use Rattle.plan.proofs.InOrder.{every-at}

@@ -13,7 +13,7 @@ use Rattle.octets.proofs.Cases.{by-lt}
 use Rattle.plan.specs.Plan.{Plan}
 use Rattle.plan.specs.Line.{Line, unreadable, portLine, flowLine, mpLine, lf, parted, portKinds, flowKinds, mpKinds}
 use Rattle.plan.specs.PlanText.{reasonOf, added, finished, readLines}
-use Rattle.plan.specs.Written.{decimal, wordAt, fieldsOf, tabbed, lineText, ended}
+use Rattle.plan.specs.WrittenPlan.{decimal, wordAt, fieldsOf, tabbed, lineText, ended}
 use Rattle.plan.proofs.Fair.{fairLine}
 use Rattle.plan.proofs.WrittenNumbers.{hex-length}
 use Rattle.plan.proofs.WrittenFields.{parted-past, line-free, word-passes}

@@ -1,5 +1,5 @@
 pub mod Plan
 pub mod Line
 pub mod PlanText
-pub mod Written
-pub mod Held
+pub mod WrittenPlan
+pub mod Records

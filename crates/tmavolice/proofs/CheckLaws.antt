@@ -17,8 +17,8 @@ use Rattle.state.specs.Rows.{numberedAt}
 use Rattle.state.proofs.ImageLaws.{ok-length}
 use Rattle.state.proofs.PlaceLaws.{numbered-none, numbered-within, ok-places, ok-numbers}
 use Rattle.calls.specs.Calls.{Call, tick, allow, prohibit, notice, restart, refusal, shortOutput, noSuchFlow}
-use Rattle.serving.specs.Known.{ImageKnown, FlowKnown, NoticeKnown}
-use Rattle.tmavolice.specs.Checked.{checked, Checked}
+use Rattle.calls_serving.specs.Preconditions.{ImageKnown, FlowKnown, NoticeKnown}
+use Rattle.tmavolice.specs.Checks.{checked, Checked}
 
 pub no-image : {l : List ℕ} {c : Call} {Known : Type 0} {t : Bool} → t ≡ okImage l → t ≡ false → Checked l c Known 8
 unfolding checked

@@ -15,9 +15,9 @@ use Rattle.calls.specs.declared.Answer.the-variants.{Refused, Done}
 use Rattle.calls.specs.Answer.{leaves, numberOf}
 use Rattle.calls.specs.Calls.{Call, refusal, served, lent, handed, call, Entered, makes, stored, enter}
 use Rattle.calls.proofs.Alone.{refused-8-alone, refused-image-alone}
-use Rattle.requests.specs.Serving.{Served}
+use Rattle.calls_requests.specs.Arrival.{Served}
 use Rattle.tmavolice.specs.Outcome.{Outcome}
-use Rattle.tmavolice.specs.Checked.{checked, Checked}
+use Rattle.tmavolice.specs.Checks.{checked, Checked}
 use Rattle.tmavolice.proofs.Rewrites.{served-rewrites}
 
 -- is there a state to call?

@@ -12,8 +12,8 @@ use Rattle.plan.specs.Plan.{portNumbered, inPlan}
 use Rattle.state.specs.State.{State, noticeDue}
 use Rattle.state.specs.Image.{stateOf, okImage}
 use Rattle.calls.specs.Calls.{frame, refusal, noSuchPlace, badLength, shortOutput}
-use Rattle.serving.specs.Known.{Fair}
-use Rattle.tmavolice.specs.Checked.{Checked}
+use Rattle.calls_serving.specs.Preconditions.{Fair}
+use Rattle.tmavolice.specs.Checks.{Checked}
 use Rattle.tmavolice.proofs.CheckLaws.{sized, refused, passed}
 
 abbrev There : State → ℕ → Type 0

@@ -5,11 +5,11 @@ use mathlib.Core.List.{List, []}
 use Prim.Native.Nat.{ℕ}
 use lib.ListN.{length, replicate}
 use borrow.Author.Tests.{eq-eqb, ne-eqb}
-use Rattle.reader.specs.declared.ReadPlan.{ReadPlan}
+use Rattle.plan_reader.specs.declared.ReadPlan.{ReadPlan}
 use Rattle.plan.specs.Plan.{keepsRules}
 use Rattle.plan.specs.PlanText.{fault, planned, planIn}
-use Rattle.plan.specs.Held.{planOf}
-use Rattle.reader.specs.Read.{readingOf}
+use Rattle.plan.specs.Records.{planOf}
+use Rattle.plan_reader.specs.ReadPlan.{readingOf}
 use Rattle.plan.proofs.ReadKeeps.{read-keeps}
 use Rattle.state.specs.Image.{image}
 use Rattle.calls.specs.declared.Answer.the-variants.{Refused, Done, Faulty}

@@ -1,17 +1,17 @@
 // The calls as a host sees them: C entries over the lent image.
-use crate::refusing::flow_refusal;
-use crate::refusing::frame_refusal;
-use crate::refusing::notice_refusal;
-use crate::refusing::restart_refusal;
-use crate::refusing::tick_refusal;
+use crate::refusals::flow_refusal;
+use crate::refusals::frame_refusal;
+use crate::refusals::notice_refusal;
+use crate::refusals::restart_refusal;
+use crate::refusals::tick_refusal;
 use calls::Answer;
 use calls::answer_number;
-use serving::allow_flow;
-use serving::prohibit_flow;
-use serving::restart_at;
-use serving::serve_frame;
-use serving::take_notice;
-use serving::tick_to;
+use calls_serving::allow_flow;
+use calls_serving::prohibit_flow;
+use calls_serving::restart_at;
+use calls_serving::serve_frame;
+use calls_serving::take_notice;
+use calls_serving::tick_to;
 ghost use mathlib.Core.List.{[]};
 ghost use Rattle.calls.specs.Calls.{frame as framed, tick, allow, prohibit, notice, restart, enter};
 ghost use Rattle.tmavolice.specs.Outcome.{Outcome};

@@ -1,7 +1,7 @@
 // The product: the seven calls as C entries over the lent image.
 mod entries;
-mod making;
-mod refusing;
+mod make;
+mod refusals;
 
 pub use entries::tmavolice_allow;
 pub use entries::tmavolice_frame;
@@ -9,4 +9,4 @@ pub use entries::tmavolice_notice;
 pub use entries::tmavolice_prohibit;
 pub use entries::tmavolice_restart;
 pub use entries::tmavolice_tick;
-pub use making::tmavolice_make;
+pub use make::tmavolice_make;

@@ -2,8 +2,8 @@
 use mathlib.Core.Path.{_≡_, refl}
 use mathlib.Core.List.{[], _∷_, map}
 use Rattle.octets.specs.Text.{text}
-use Rattle.plan.specs.Written.{decimal, hexDigit, hexadecimal, wordAt, fieldsOf, tabbed, lineText, ended}
-use Rattle.plan.specs.Written.{portRecord, flowRecord, mpsFrom, mpRecords, recordsOf, textOf}
+use Rattle.plan.specs.WrittenPlan.{decimal, hexDigit, hexadecimal, wordAt, fieldsOf, tabbed, lineText, ended}
+use Rattle.plan.specs.WrittenPlan.{portRecord, flowRecord, mpsFrom, mpRecords, recordsOf, textOf}
 use Rattle.plan.proofs.Examples.{lines, read, bench, benchPlan}
 
 numbers-have-no-leading-zeros : map (decimal 4) (0 ∷ 7 ∷ 10 ∷ 305 ∷ 4094 ∷ []) ≡ map text ("0" ∷ "7" ∷ "10" ∷ "305" ∷ "4094" ∷ [])

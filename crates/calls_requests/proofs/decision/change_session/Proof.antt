@@ -1,0 +1,70 @@
+use mathlib.Core.Logic.{inl, inr, ⊎-elim}
+use Rattle.state.proofs.ImageLaws.{ok-length}
+use Rattle.calls_requests.proofs.Stored.{Keeps, keeps-active, same-left, closed-left, kept-left}
+use borrow.Author.Needs.{needs}
+use Rattle.calls_requests.proofs.decision.change_session.Statement.{statement}
+use Rattle.calls_requests.proofs.decision.change_session.Tie as tie
+
+keeps : (c : tie.At-match-came) → Keeps (c .before .before .args .change) (c .match .x)
+keeps c = ⊎-elim (λ w. inl (rw (w .3) (w .1 .given .1))) (λ w. inr (rw (w .3) (w .1 .given .1))) (c .match .came)
+
+enum-told : tie.Need-enum-told
+enum-told c = search needs
+
+enum-known-change : tie.Need-enum-known-change
+enum-known-change c = search needs
+
+enum-known-change-2 : tie.Need-enum-known-change-2
+enum-known-change-2 c = search needs
+
+enum-told-2 : tie.Need-enum-told-2
+enum-told-2 c = search needs
+
+remove-session-requires : tie.Need-remove-session-requires
+remove-session-requires c κs =
+    let p : _ = c .before .before .before .before .pre .0 in
+    (ok-length _ (p .0), p .1)
+
+put-session-requires : tie.Need-put-session-requires
+put-session-requires c κs =
+    let p : _ = c .before .before .before .pre in
+    let f : _ = p .1 (c .before .match .x) (keeps-active (keeps (c .before))) in
+    (ok-length _ (p .0 .0), (f .source-fits, f .found))
+
+returns : tie.Need-returns
+returns c = λ key er. same-left _ (c .before .before .before .pre .0 .0) key (c .enum-told .given .1)
+
+same-length : tie.Need-same-length
+same-length c = search needs
+
+returns-2 : tie.Need-returns-2
+returns-2 c =
+    let k : _ = c .before .before .before .before in
+    λ key er.
+    closed-left _ (k .before .before .before .pre .0 .0) key (k .enum-told2 .given .1) er (c .before .before .remove-session .ensures)
+
+same-length-2 : tie.Need-same-length-2
+same-length-2 c = search needs
+
+returns-3 : tie.Need-returns-3
+returns-3 c =
+    let m : _ = c .before .before .before .before in
+    let p : _ = m .before .before .pre in
+    let f : _ = p .1 (m .match .x) (keeps-active (keeps m)) in
+    λ key er. kept-left _ (p .0 .0) key _ (c .before .before .put-session .ensures) (f .room) (keeps m)
+
+pub change-session-spec : {M : Type 1} → statement M
+change-session-spec =
+    tie.close
+    (tie.spec
+    enum-told
+    enum-known-change
+    enum-known-change-2
+    enum-told-2
+    remove-session-requires
+    put-session-requires
+    returns
+    same-length
+    returns-2
+    same-length-2
+    returns-3)

@@ -1,0 +1,112 @@
+-- The session that is first owed a notice, in a valid state: it is one of the sessions, and fits a notice.
+use mathlib.Core.Path.{_≡_, refl, sym, ap, _∙_}
+use mathlib.Core.Bool.{Bool, true, false, cond, not, _&&_, true≢false}
+use mathlib.Core.List.{List, [], _∷_}
+use Prim.Native.Nat.{ℕ, _/_, _^_, _<_, _≤_}
+use native.Mathlib.Omega.{arith}
+use lib.Dec.{eqb, ltb}
+use lib.ListN.{length, List·getD-eq-default}
+use borrow.Author.Tests.{eqb-true}
+use Rattle.octets.specs.Lists.{every, some, first}
+use Rattle.octets.proofs.Same.{both-true}
+use Rattle.octets.proofs.Cases.{by-lt}
+use Rattle.codec.specs.declared.FrameSet.{FrameSet}
+use Rattle.codec.specs.FrameSet.{untagged, c-tagged, c-tag, s-tag, group, setOf, vidOf, tagFits}
+use Rattle.machine.specs.declared.Session.{Session}
+use Rattle.machine.specs.Machine.{isOpen}
+use Rattle.plan.specs.declared.Flow.{Flow}
+use Rattle.plan.specs.Plan.{flowNumbered, inPlan, mpAt, faces, goodFlow}
+use Rattle.plan.proofs.Kept.{rules}
+use Rattle.plan.proofs.Found.{flow-passes}
+use Rattle.state.specs.State.{State, isAllowed, goodTime, goodSession, valid, noticeDue, noSession, firstOwed}
+use Rattle.state.specs.Image.{stateOf}
+use Rattle.state.proofs.Rules.{Valid, valid-parts}
+use Rattle.state.proofs.Fits.{good-flow, good-fits}
+use Rattle.state.proofs.ImageLaws.{ok-valid}
+use Rattle.calls_serving.specs.Preconditions.{NoticeKnown}
+
+by-test : {A : Type 0} (t : Bool) → (t ≡ true → A) → (t ≡ false → A) → A
+by-test true p q = p refl
+by-test false p q = q refl
+
+first-good : {A : Type 0} (test good : A → Bool) (other : A) (xs : List A) → some test xs ≡ true → every good xs ≡ true
+    → good (first test other xs) ≡ true
+unfolding some every first
+first-good test good other [] h e = absurd (true≢false (sym h))
+first-good test good other (x ∷ xs) h e =
+    let b : _ = both-true (good x) (every good xs) e in
+    by-test (test x)
+    (λ q. rw q (b .0))
+    (λ q. let g : some test xs ≡ true = rw q at h in rw q (first-good test good other xs g (b .1)))
+
+owed-good : (s : State) → valid s ≡ true → noticeDue s ≡ true → goodSession s (firstOwed s) ≡ true
+unfolding noticeDue firstOwed
+owed-good s v due =
+    first-good (λ (x : Session). not (isOpen x)) (goodSession s) noSession (s .sessions) due (valid-parts s v .sessions-good)
+
+-- ---- what a notice needs of it
+
+pub record NoticeFits (x : Session) : Type 0 where
+  pub level-fits : x .level < 8
+  pub count-fits : x .count ≤ 4
+  pub tag-fits : x .tag < 2 ^ 32
+  pub source-fits : x .source < 2 ^ 48
+
+level-fits : (level side : ℕ) (f : Flow) → length (f .mps) ≡ 8 → faces (mpAt level f) side ≡ true → level < 8
+unfolding mpAt faces
+level-fits level side f eight h =
+    by-lt level 8
+    (λ e low. low)
+    (λ e high.
+    let none : mpAt level f ≡ 0 = List·getD-eq-default (f .mps) 0 (omega arith) in
+    absurd (true≢false (sym h ∙ ap (λ (mp : ℕ). faces mp side) none)))
+
+tag-fits : (set : FrameSet) (count tag : ℕ) → tagFits set count tag ≡ true → (count ≤ 4) × (tag < 2 ^ 32)
+unfolding tagFits
+tag-fits set count tag h = go (eqb (set .kind) untagged) (eqb (set .kind) c-tagged) h
+  where
+    kinds : (c : Bool) → cond c c-tag s-tag < 2 ^ 16
+    kinds true = omega arith
+    kinds false = omega arith
+
+    go : (u c : Bool)
+        → cond u (eqb count 0 && eqb tag 0)
+        (eqb count 4 && eqb (tag / 2 ^ 16) (cond c c-tag s-tag) && eqb (vidOf tag) (set .vid)) ≡ true
+        → (count ≤ 4) × (tag < 2 ^ 32)
+    go true c e =
+        let t : _ = both-true (eqb count 0) (eqb tag 0) e in
+        (omega (arith, eqb-true count 0 (t .0)), omega (arith, eqb-true tag 0 (t .1)))
+    go false c e =
+        let x : ℕ = cond c c-tag s-tag in
+        let t : _ = both-true (eqb count 4 && eqb (tag / 2 ^ 16) x) (eqb (vidOf tag) (set .vid)) e in
+        let r : _ = both-true (eqb count 4) (eqb (tag / 2 ^ 16) x) (t .0) in
+        (omega (arith, eqb-true count 4 (r .0)), omega (arith, eqb-true (tag / 2 ^ 16) x (r .1), kinds c))
+
+session-fits : (s : State) (x : Session) → valid s ≡ true → goodSession s x ≡ true → NoticeFits x
+unfolding goodSession
+session-fits s x v h =
+    let p : Valid s = valid-parts s v in
+    let f : Flow = flowNumbered (x .flow) (s .plan) in
+    let a : Bool = inPlan (f .number) in
+    let b : Bool = ltb (x .source) (2 ^ 48) in
+    let c : Bool = not (group (x .source)) in
+    let d : Bool = tagFits (setOf (f .kind) (f .vid)) (x .count) (x .tag) in
+    let e : Bool = faces (mpAt (x .level) f) (x .side) in
+    let t5 : _ = both-true (a && b && c && d && e) (goodTime (isAllowed (x .flow) s) x) h in
+    let t4 : _ = both-true (a && b && c && d) e (t5 .0) in
+    let t3 : _ = both-true (a && b && c) d (t4 .0) in
+    let t1 : _ = both-true a b (both-true (a && b) c (t3 .0) .0) in
+    let good : goodFlow (s .plan) f ≡ true
+    = flow-passes (s .plan) (goodFlow (s .plan)) (x .flow) (rules (s .plan) (p .plan-kept) .flows-good) (t1 .0) in
+    let tag : _ = tag-fits (setOf (f .kind) (f .vid)) (x .count) (x .tag) (t3 .1) in
+    record {
+      level-fits = level-fits (x .level) (x .side) f (good-flow (s .plan) f good .fits .mps-fit) (t4 .1);
+      count-fits = tag .0;
+      tag-fits = tag .1;
+      source-fits = good-fits s x (p .plan-kept) h .source-fits;
+    }
+
+pub owed-fits : {l out : List ℕ} → NoticeKnown l out → {x : Session} → x ≡ firstOwed (stateOf l) → NoticeFits x
+owed-fits {l} k e =
+    let v : valid (stateOf l) ≡ true = ok-valid l (k .ok) in
+    rw e (session-fits (stateOf l) (firstOwed (stateOf l)) v (owed-good (stateOf l) v (k .due)))

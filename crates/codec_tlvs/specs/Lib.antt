@@ -1,0 +1,3 @@
+pub mod Tlv
+pub mod Walk
+pub mod Additions

@@ -1,0 +1,80 @@
+use mathlib.Core.Path.{_≡_, refl, _∙_}
+use Prim.Native.Nat.{_≤_, _-_}
+use native.Mathlib.Omega.{arith}
+use lib.ListN.{length, drop}
+use borrow.Author.Needs.{needs}
+use denote.Ref.{now}
+use Rattle.plan_lines.specs.CappedLine.{capped}
+use Rattle.plan_lines.specs.Fields.{digitsOn}
+use Rattle.plan_lines.proofs.Spelling.{digits-turn, digits-other, digits-end}
+use Rattle.plan_lines.proofs.fields.digits_of.Statement.{statement}
+use Rattle.plan_lines.proofs.fields.digits_of.Tie as tie
+
+abbrev Inv-loop : tie.InvT-loop
+Inv-loop f so₀ i₀ so i = (so ≤ 9999) × (digitsOn so (drop i f) ≡ digitsOn 0 f)
+
+abbrev μ-loop : tie.MeasureT-loop
+μ-loop f so₀ i₀ so i = length f - i
+
+loop-holds : tie.Need-loop-holds Inv-loop μ-loop
+loop-holds c = (omega arith, refl)
+
+shared-slice-read-value-of : tie.Need-shared-slice-read-value-of Inv-loop μ-loop
+shared-slice-read-value-of c = omega arith
+
+value-of-requires : tie.Need-value-of-requires Inv-loop μ-loop
+value-of-requires c κs = search needs
+
+returns : tie.Need-returns Inv-loop μ-loop
+returns c =
+    let a : _ = c .before .before .before .before .before .before .args in
+    let l : _ = c .before .before .before .before .loop in
+    digits-other (now (a .f)) (l .i) (l .so) _ (omega arith) (c .before .value-of .ensures) (c .if1 .taken) ∙ l .inv .1
+
+mul-cap : tie.Need-mul-cap Inv-loop μ-loop
+mul-cap c = omega arith
+
+add-cap : tie.Need-add-cap Inv-loop μ-loop
+add-cap c = omega arith
+
+cap-requires : tie.Need-cap-requires Inv-loop μ-loop
+cap-requires c κs = search needs
+
+add-i : tie.Need-add-i Inv-loop μ-loop
+add-i c = omega arith
+
+loop-less : tie.Need-loop-less Inv-loop μ-loop
+loop-less c = omega arith
+
+loop-again : tie.Need-loop-again Inv-loop μ-loop
+unfolding capped
+loop-again c =
+    let a : _ = c .before .before .before .before .before .before .before .args in
+    let l : _ = c .before .before .before .before .before .loop in
+    let d : _ = c .before .before .value-of in
+    let turn : _ = digits-turn (now (a .f)) (l .i) (l .so) (d .result) (omega arith) (d .ensures) (c .before .if1 .left) in
+    (omega arith, rw (c .cap .ensures) turn ∙ l .inv .1)
+
+returns-2 : tie.Need-returns-2 Inv-loop μ-loop
+returns-2 c =
+    let a : _ = c .before .before .before .args in
+    let l : _ = c .before .loop in
+    digits-end (now (a .f)) (l .i) (l .so) (omega arith) (l .inv .0) ∙ l .inv .1
+
+pub digits-of-spec : {M : Type 1} → statement M
+digits-of-spec =
+    tie.close
+    (tie.spec
+    Inv-loop
+    μ-loop
+    loop-holds
+    shared-slice-read-value-of
+    value-of-requires
+    returns
+    mul-cap
+    add-cap
+    cap-requires
+    add-i
+    loop-less
+    loop-again
+    returns-2)

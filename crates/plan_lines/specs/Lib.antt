@@ -1,0 +1,2 @@
+pub mod CappedLine
+pub mod Fields

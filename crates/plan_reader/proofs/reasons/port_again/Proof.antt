@@ -1,0 +1,22 @@
+use borrow.Author.Needs.{needs}
+use Rattle.plan_reader.proofs.ReasonLaws.{there, gone}
+use Rattle.plan_reader.proofs.reasons.port_again.Statement.{statement}
+use Rattle.plan_reader.proofs.reasons.port_again.Tie as tie
+
+port-numbered-requires : tie.Need-port-numbered-requires
+port-numbered-requires c κs = search needs
+
+returns : tie.Need-returns
+returns c = rw (there (λ x. x .number) (c .before .before .port-numbered .ensures) (c .if1 .taken))
+
+address-held-requires : tie.Need-address-held-requires
+address-held-requires c κs = search needs
+
+returns-2 : tie.Need-returns-2
+returns-2 c =
+    rw (gone (λ x. x .number) (c .before .before .before .port-numbered .ensures) (c .before .if1 .left))
+    (c .address-held .ensures)
+
+pub port-again-spec : {M : Type 1} → statement M
+port-again-spec =
+    tie.close (tie.spec port-numbered-requires returns address-held-requires returns-2)

@@ -1,0 +1,166 @@
+use mathlib.Core.Path.{_≡_, sym, ap, _∙_}
+use mathlib.Core.Bool.{true}
+use mathlib.Core.List.{[]}
+use Prim.Native.Nat.{_+_, _-_, _<_, _≤_}
+use native.Mathlib.Omega.{arith}
+use lib.ListN.{length, drop, drop-of-length-le}
+use borrow.Author.Needs.{needs}
+use borrow.Author.Tests.{lt-ltb, le-ltb}
+use denote.Ref.{now}
+use Rattle.plan.specs.Plan.{soFar}
+use Rattle.plan.specs.Line.{lf, parted}
+use Rattle.plan.specs.PlanText.{readLines, emptyPlan, planIn}
+use Rattle.plan.specs.Records.{planOf}
+use Rattle.plan.proofs.ReadKeeps.{none-so-far}
+use Rattle.plan_reader.proofs.ReadLaws.{cut-off, line-faulty, line-good, line-keeps}
+use Rattle.plan_reader.proofs.text.read_plan.Statement.{statement}
+use Rattle.plan_reader.proofs.text.read_plan.Tie as tie
+
+abbrev Inv-loop : tie.InvT-loop
+Inv-loop text records₀ n₀ at₀ records n at =
+    (at ≤ length text) × (n ≤ at + 1) × (soFar (planOf records) ≡ true)
+    × (readLines n (planOf records) (parted lf (drop at text)) ≡ readLines 1 emptyPlan (parted lf text))
+
+abbrev μ-loop : tie.MeasureT-loop
+μ-loop text records₀ n₀ at₀ records n at = length text - at
+
+faulty-requires : tie.Need-faulty-requires Inv-loop μ-loop
+faulty-requires c κs = search needs
+
+returns : tie.Need-returns Inv-loop μ-loop
+unfolding planIn
+returns c = rw (lt-ltb _ _ (c .before .if1 .taken)) (c .faulty .ensures)
+
+no-records-requires : tie.Need-no-records-requires Inv-loop μ-loop
+no-records-requires c κs = search needs
+
+loop-holds : tie.Need-loop-holds Inv-loop μ-loop
+loop-holds c = (omega arith, omega arith, ap soFar (c .no-records .ensures) ∙ none-so-far, rw (c .no-records .ensures))
+
+end-of-requires : tie.Need-end-of-requires Inv-loop μ-loop
+end-of-requires c κs = c .before .loop .inv .0
+
+faulty-requires-2 : tie.Need-faulty-requires-2 Inv-loop μ-loop
+faulty-requires-2 c κs = search needs
+
+returns-2 : tie.Need-returns-2 Inv-loop μ-loop
+unfolding planIn
+returns-2 c =
+    let found : _ = c .before .before in
+    let l : _ = found .before .before .loop in
+    let short : _ = found .before .before .before .before in
+    let e : _ = found .end-of in
+    rw (le-ltb _ _ (short .if1 .left))
+    (c .faulty2 .ensures
+    ∙ cut-off (now (short .before .before .args .text)) (l .at) (e .result) (l .n) (planOf (l .records)) (l .inv .3)
+    (e .ensures .0) (e .ensures .1 .0) (found .before .loop-test .taken) (c .before .if2 .taken))
+
+sub-line-of : tie.Need-sub-line-of Inv-loop μ-loop
+sub-line-of c = c .before .end-of .ensures .1 .0
+
+part-line-of-start : tie.Need-part-line-of-start Inv-loop μ-loop
+part-line-of-start c = search needs
+
+part-line-of-end : tie.Need-part-line-of-end Inv-loop μ-loop
+part-line-of-end c = search needs
+
+line-of-requires : tie.Need-line-of-requires Inv-loop μ-loop
+line-of-requires c κs = search needs
+
+reason-of-requires : tie.Need-reason-of-requires Inv-loop μ-loop
+reason-of-requires c κs = search needs
+
+faulty-requires-3 : tie.Need-faulty-requires-3 Inv-loop μ-loop
+faulty-requires-3 c κs = omega (arith, c .if3 .taken)
+
+returns-3 : tie.Need-returns-3 Inv-loop μ-loop
+unfolding planIn
+returns-3 c =
+    let cut : _ = c .before .before .before .before .before in
+    let found : _ = cut .before in
+    let l : _ = found .before .before .loop in
+    let short : _ = found .before .before .before .before in
+    let e : _ = found .end-of in
+    rw (le-ltb _ _ (short .if1 .left))
+    (c .faulty3 .ensures
+    ∙ line-faulty (now (short .before .before .args .text)) (l .at) (e .result) (l .n) (planOf (l .records)) (l .inv .3)
+    (e .ensures .0) (e .ensures .1 .0) (omega (arith, e .ensures .1 .1, cut .if2 .left))
+    (c .before .before .before .line-of .ensures) (c .before .before .reason-of .ensures) (c .before .if3 .taken))
+
+with-line-requires : tie.Need-with-line-requires Inv-loop μ-loop
+with-line-requires c κs =
+    (c .before .before .before .before .before .before .before .loop .inv .2, sym (c .before .reason-of .ensures) ∙ c .if3 .left)
+
+add-n : tie.Need-add-n Inv-loop μ-loop
+add-n c =
+    let found : _ = c .before .before .before .before .before .before in
+    let l : _ = found .before .before .loop in
+    omega (arith, l .inv .0, l .inv .1, found .before .before .before .before .if1 .left)
+
+add-at : tie.Need-add-at Inv-loop μ-loop
+add-at c =
+    let found : _ = c .before .before .before .before .before .before in
+    omega (arith, found .end-of .ensures .1 .1, found .before .before .before .before .if1 .left)
+
+loop-less : tie.Need-loop-less Inv-loop μ-loop
+loop-less c =
+    let cut : _ = c .before .before .before .before .before in
+    let e : _ = cut .before .end-of in
+    omega (arith, e .ensures .1 .0, e .ensures .1 .1, cut .if2 .left)
+
+loop-again : tie.Need-loop-again Inv-loop μ-loop
+loop-again c =
+    let cut : _ = c .before .before .before .before .before in
+    let found : _ = cut .before in
+    let l : _ = found .before .before .loop in
+    let t : _ = now (found .before .before .before .before .before .before .args .text) in
+    let e : _ = found .end-of in
+    let h : e .result < length t = omega (arith, e .ensures .1 .1, cut .if2 .left) in
+    let s : _ = c .before .before .before .line-of .ensures in
+    let r : _ = c .before .before .reason-of .ensures in (
+      omega arith,
+      omega (arith, l .inv .1, e .ensures .1 .0),
+      line-keeps t (l .at) (e .result) (l .n) (planOf (l .records)) (l .inv .3) (e .ensures .0) (e .ensures .1 .0) h s r
+          (c .before .if3 .left) (c .with-line .ensures) (l .inv .2),
+      line-good t (l .at) (e .result) (l .n) (planOf (l .records)) (l .inv .3) (e .ensures .0) (e .ensures .1 .0) h s r
+          (c .before .if3 .left) (c .with-line .ensures),
+    )
+
+ended-requires : tie.Need-ended-requires Inv-loop μ-loop
+ended-requires c κs = search needs
+
+returns-4 : tie.Need-returns-4 Inv-loop μ-loop
+unfolding planIn parted readLines
+returns-4 c =
+    let t : _ = now (c .before .before .before .before .before .before .args .text) in
+    let l : _ = c .before .before .loop in
+    let z : drop (l .at) t ≡ [] = drop-of-length-le t {i = l .at} (omega arith) in
+    rw (le-ltb _ _ (c .before .before .before .before .if1 .left)) (c .ended .ensures ∙ (rw z at (l .inv .3)))
+
+pub read-plan-spec : {M : Type 1} → statement M
+read-plan-spec =
+    tie.close
+    (tie.spec
+    Inv-loop
+    μ-loop
+    faulty-requires
+    returns
+    no-records-requires
+    loop-holds
+    end-of-requires
+    faulty-requires-2
+    returns-2
+    sub-line-of
+    part-line-of-start
+    part-line-of-end
+    line-of-requires
+    reason-of-requires
+    faulty-requires-3
+    returns-3
+    with-line-requires
+    add-n
+    add-at
+    loop-less
+    loop-again
+    ended-requires
+    returns-4)

@@ -1,0 +1,78 @@
+// A plan's text, read line by line.
+use crate::ReadPlan;
+use crate::additions::with_line;
+use crate::reasons::reason_of;
+use plan::Records;
+use plan_lines::end_of;
+use plan_lines::line_of;
+use plan_records::no_flow;
+use plan_records::no_port;
+use plan_records::none_held;
+ghost use mathlib.Core.Path.{_≡_};
+ghost use Prim.Native.Nat.{_<_};
+ghost use Rattle.plan.specs.PlanText.{fault, finished, emptyPlan, planIn};
+ghost use Rattle.plan.specs.Records.{planOf};
+ghost use Rattle.plan_reader.specs.ReadPlan.{readingOf};
+
+fn no_records() -> Records
+    ensures { λ r. ⌜ planOf r ≡ emptyPlan ⌝ }
+{
+    let p = no_port();
+    let f = no_flow();
+    Records {
+        ports: [p; 8],
+        flows: [f; 32],
+    }
+}
+
+fn faulty(line: u32, reason: u8) -> ReadPlan
+    requires { ⌜ 0 < reason ⌝ }
+    ensures { λ r. ⌜ readingOf r ≡ fault line reason ⌝ }
+{
+    let records = no_records();
+    ReadPlan {
+        line: line,
+        reason: reason,
+        records: records,
+    }
+}
+
+fn ended(records: Records) -> ReadPlan
+    ensures { λ r. ⌜ readingOf r ≡ finished (planOf records) ⌝ }
+{
+    let ports = records.ports;
+    if none_held(ports) {
+        return faulty(0, 6);
+    }
+    ReadPlan {
+        line: 0,
+        reason: 0,
+        records: records,
+    }
+}
+
+pub fn read_plan(text: &[u8]) -> ReadPlan
+    ensures { λ r. ⌜ readingOf r ≡ planIn (now (text .entry)) ⌝ }
+{
+    if 8192 < text.len() {
+        return faulty(0, 5);
+    }
+    let mut records = no_records();
+    let mut n: u32 = 1;
+    let mut at: usize = 0;
+    while at < text.len() {
+        let end = end_of(text, at, 10);
+        if end == text.len() {
+            return faulty(n, 1);
+        }
+        let line = line_of(&text[at..end]);
+        let reason = reason_of(records, line);
+        if reason != 0 {
+            return faulty(n, reason);
+        }
+        records = with_line(records, line);
+        n += 1;
+        at = end + 1;
+    }
+    ended(records)
+}

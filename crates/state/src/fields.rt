@@ -1,0 +1,177 @@
+// What an image says, whatever its octets are.
+use crate::Found;
+use crate::records::read_port;
+use crate::records::read_session;
+use crate::records::wide;
+use crate::rows::owed_at;
+use crate::rows::port_at;
+use crate::rows::session_at;
+use machine::Machine;
+use machine::Session;
+use octets::low4;
+use octets::low8;
+use plan::Port;
+ghost use mathlib.Core.Path.{_≡_};
+ghost use mathlib.Core.Bool.{cond};
+ghost use Prim.Native.Nat.{_+_, _≤_};
+ghost use lib.ListN.{length};
+ghost use lib.Dec.{eqb};
+ghost use Rattle.octets.specs.Lists.{count};
+ghost use Rattle.machine.specs.Machine.{isOpen};
+ghost use Rattle.plan.specs.declared.Flow.{Flow};
+ghost use Rattle.plan.specs.Plan.{portNumbered, mpAt};
+ghost use Rattle.state.specs.State.{isAllowed, machineOf, roomFor, noticeDue, firstOwed};
+ghost use Rattle.state.specs.Image.{stateOf};
+ghost use Rattle.state.specs.Rows.{sessionAt, flowOfRow};
+
+pub fn clock_of(b: &[u8]) -> u32
+    requires { ⌜ length (now b) ≡ 4096 ⌝ }
+    ensures { λ r. ⌜ r ≡ stateOf (now (b .entry)) .clock ⌝ }
+{
+    low4(b, 0)
+}
+
+// A port by its number, or one with number 0.
+pub fn port_numbered(b: &[u8], number: u32) -> Port
+    requires { ⌜ length (now b) ≡ 4096 ⌝ }
+    ensures { λ r. ⌜ r ≡ portNumbered number (stateOf (now (b .entry)) .plan) ⌝ }
+{
+    let at = port_at(b, number);
+    if at == 0 {
+        return Port {
+            number: 0,
+            kind: 0,
+            address: 0,
+        };
+    }
+    read_port(b, at)
+}
+
+// The number of the flow of a row, or 0.
+pub fn number_of(b: &[u8], row: usize) -> u8
+    requires { ⌜ row + 32 ≤ length (now b) ⌝ }
+    ensures { λ r. ⌜ r ≡ flowOfRow row (now (b .entry)) .number ⌝ }
+{
+    if row == 0 {
+        return 0;
+    }
+    b[row + 1]
+}
+
+// The MP at a level of the flow of a row, or 0.
+pub fn mp_of(b: &[u8], row: usize, level: u8) -> u8
+    requires { ⌜ row + 32 ≤ length (now b) ⌝ }
+    ensures { λ r. ⌜ r ≡ mpAt level (flowOfRow row (now (b .entry))) ⌝ }
+{
+    if row == 0 {
+        return 0;
+    }
+    if 7 < level {
+        return 0;
+    }
+    b[row + 8 + wide(level)]
+}
+
+pub fn allows(b: &[u8], flow: usize) -> bool
+    requires { ⌜ (length (now b) ≡ 4096) × ((1 ≤ flow) × (flow ≤ 32)) ⌝ }
+    ensures { λ r. ⌜ r ≡ isAllowed flow (stateOf (now (b .entry))) ⌝ }
+{
+    b[31 + flow] == 1
+}
+
+pub fn find_machine(b: &[u8], key: u64) -> Found
+    requires { ⌜ length (now b) ≡ 4096 ⌝ }
+    ensures { λ r. ⌜ (r .row ≡ sessionAt key (now (b .entry)))
+        × (r .machine ≡ machineOf key (stateOf (now (b .entry)) .sessions)) ⌝ }
+{
+    let row = session_at(b, key);
+    if row == 0 {
+        return Found {
+            row,
+            machine: Machine::Inactive,
+        };
+    }
+    let s = read_session(b, row);
+    if s.notice != 0 {
+        return Found {
+            row,
+            machine: Machine::Inactive,
+        };
+    }
+    Found {
+        row,
+        machine: Machine::Active(s),
+    }
+}
+
+pub fn machine_of(b: &[u8], key: u64) -> Machine
+    requires { ⌜ length (now b) ≡ 4096 ⌝ }
+    ensures { λ r. ⌜ r ≡ machineOf key (stateOf (now (b .entry)) .sessions) ⌝ }
+{
+    find_machine(b, key).machine
+}
+
+pub fn notice_due(b: &[u8]) -> bool
+    requires { ⌜ length (now b) ≡ 4096 ⌝ }
+    ensures { λ r. ⌜ r ≡ noticeDue (stateOf (now (b .entry))) ⌝ }
+{
+    owed_at(b) != 0
+}
+
+pub fn first_owed(b: &[u8]) -> Session
+    requires { ⌜ length (now b) ≡ 4096 ⌝ }
+    ensures { λ r. ⌜ r ≡ firstOwed (stateOf (now (b .entry))) ⌝ }
+{
+    let at = owed_at(b);
+    if at == 0 {
+        return Session {
+            flow: 0,
+            source: 0,
+            level: 0,
+            side: 0,
+            count: 0,
+            tag: 0,
+            left: 0,
+            notice: 0,
+        };
+    }
+    read_session(b, at)
+}
+
+// 1 if the octet is 0.
+fn open_mark(notice: u8) -> usize
+    ensures { λ r. ⌜ (r ≡ cond (eqb notice 0) 1 0) × (r ≤ 1) ⌝ }
+{
+    if notice == 0 {
+        return 1;
+    }
+    0
+}
+
+pub fn open_count(b: &[u8]) -> usize
+    requires { ⌜ length (now b) ≡ 4096 ⌝ }
+    ensures { λ r. ⌜ r ≡ count isOpen (stateOf (now (b .entry)) .sessions) ⌝ }
+{
+    let mut n: usize = 0;
+    let mut i: usize = 0;
+    while i < 16 {
+        let at = 1536 + i * 32;
+        if low8(b, at) == 0 {
+            return n;
+        }
+        n += open_mark(b[at + 12]);
+        i += 1;
+    }
+    n
+}
+
+// May one more session open? 0, or the code of the reply.
+pub fn room_for(b: &[u8]) -> u8
+    requires { ⌜ length (now b) ≡ 4096 ⌝ }
+    ensures { λ r. ⌜ ((f : Flow) → r ≡ roomFor f (stateOf (now (b .entry)))) ⌝ }
+{
+    if open_count(b) < 16 {
+        return 0;
+    }
+    2
+}

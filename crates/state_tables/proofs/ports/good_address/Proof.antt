@@ -1,0 +1,18 @@
+use borrow.Author.Needs.{needs}
+use Rattle.plan.specs.Plan.{goodAddress}
+use Rattle.state_tables.proofs.ports.good_address.Statement.{statement}
+use Rattle.state_tables.proofs.ports.good_address.Tie as tie
+
+is-group-requires : tie.Need-is-group-requires
+is-group-requires c κs = search needs
+
+returns : tie.Need-returns
+unfolding goodAddress
+returns c = rw (← c .before .is-group .ensures, c .if1 .taken)
+
+returns-2 : tie.Need-returns-2
+unfolding goodAddress
+returns-2 c = rw (← c .before .is-group .ensures, c .if1 .left)
+
+pub good-address-spec : {M : Type 1} → statement M
+good-address-spec = tie.close (tie.spec is-group-requires returns returns-2)

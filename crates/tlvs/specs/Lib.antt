@@ -1,3 +1,0 @@
-pub mod Tlv
-pub mod Walk
-pub mod Added
