@@ -16,7 +16,7 @@ CROSS = --target=x86_64-linux-gnu -isystem /usr/include/$(MACHINE)-linux-gnu -fP
 	-B$(TOOLS)/lib -nodefaultlibs $(TOOLS)/lib/libc.so.6 $(TOOLS)/lib/libc_nonshared.a -Qunused-arguments
 
 # The tests in Rust are for the machine itself, and so is what they link.
-ARCHIVES += $(NATIVE)/libtmavolice.a $(NATIVE)/libprobe.a
+ARCHIVES += $(NATIVE)/libtmavolice.a $(NATIVE)/libstate_probe.a
 
 # A time on an emulator says nothing. So what is timed is the product compiled for this machine, against C by its own compilers.
 TIMES = native_times
@@ -32,6 +32,6 @@ $(OUT)/stack: CFLAGS += -fno-optimize-sibling-calls
 # By this program a test in Rust makes calls of the library for x86-64.
 programs: $(OUT)/served
 
-$(OUT)/served: served/served.c ../include/tmavolice.h $(LIB) $(PROBE)
+$(OUT)/served: wrapper/served/served.c ../include/tmavolice.h $(LIB) $(PROBE)
 	mkdir -p $(OUT)
 	$(CC) $(CFLAGS) $(LDFLAGS) -o $@ $(filter %.c %.a,$^)
