@@ -13,14 +13,14 @@ use Rattle.octets.proofs.Laws.{Octets}
 use Rattle.plan.specs.Plan.{Plan, flowNumbered, inPlan, keepsRules}
 use Rattle.plan.specs.PlanText.{Reading, fault, planned, planIn}
 use Rattle.plan.proofs.ReadKeeps.{read-keeps}
-use Rattle.state.specs.State.{State, onlyFlows, noticeDue, valid}
+use Rattle.state.specs.State.{State, onlyFlows, noticeDue, valid, withSessions, withClock, made}
 use Rattle.state.proofs.Rules.{Valid, valid-parts}
 use Rattle.calls.specs.declared.Answer.the-variants.{Refused}
 use Rattle.calls.specs.Answer.{leaves, sends}
 use Rattle.calls.specs.Notice.{noticed, noticeServed}
 use Rattle.calls.specs.Calls.{Call, make, frame, tick, allow, prohibit, notice, restart}
 use Rattle.calls.specs.Calls.{noSuchPlace, badLength, shortOutput, noSuchFlow, refusal}
-use Rattle.calls.specs.Calls.{made, makeServed, restartedAt, served, handed, call}
+use Rattle.calls.specs.Calls.{makeServed, restartedAt, served, handed, call}
 use Rattle.calls.proofs.Standing.{valid-whole}
 use Rattle.calls.proofs.TickValid.{tick-valid}
 use Rattle.calls.proofs.ManageValid.{allow-valid, prohibit-valid}
@@ -60,7 +60,7 @@ made-valid plan clock small kept =
     })
 
 restart-valid : (s : State) (clock : ℕ) → clock < 2 ^ 32 → valid s ≡ true → valid (restartedAt clock s) ≡ true
-unfolding restartedAt ascends every
+unfolding restartedAt ascends every withClock withSessions
 restart-valid s clock small h =
     let v : Valid s = valid-parts s h in
     valid-whole (restartedAt clock s)

@@ -15,7 +15,7 @@ use Rattle.machine.specs.declared.Machine.{Machine}
 use Rattle.machine.specs.declared.Machine.the-variants.{Inactive, Active}
 use Rattle.machine.specs.declared.Change.the-variants.{Opened, Restarted, Closed}
 use Rattle.machine.specs.declared.Decided.{Decided}
-use Rattle.machine.specs.Table.{admit, restart, already, close}
+use Rattle.machine.specs.Table.{admit, report, restart, already, close}
 use Rattle.machine.specs.Machine.{keyOf, isOpen, lasting, goodSeconds, sameMp}
 use Rattle.machine.specs.Machine.{answered, admitted, refreshed, restarted, closed, decided}
 use Rattle.state.specs.State.{State, isAllowed, goodSession, machineOf}
@@ -112,14 +112,16 @@ module _ (s : State) where
     unfolding decided
     decided-good action =
         let m : Machine = machineOf k (s .sessions) in
-        go m refl (eqb action admit) (eqb action restart) (eqb action already) (eqb action close)
+        go m refl (eqb action admit) (eqb action restart) (eqb action already) (eqb action close) (eqb action report)
       where
-        go : (m : Machine) → machineOf k (s .sessions) ≡ m → (a b c d : Bool)
+        go : (m : Machine) → machineOf k (s .sessions) ≡ m → (a b c d r : Bool)
             → Good
             (cond a (admitted room seconds new)
-            (cond b (restarted seconds new m) (cond c (answered 5) (cond d (closed new m) (answered 0)))))
-        go m e true b c d = admitted-good
-        go m e false true c d = restarted-good m e
-        go m e false false true d = no-change 5
-        go m e false false false true = closed-good m
-        go m e false false false false = no-change 0
+            (cond b (restarted seconds new m)
+            (cond c (answered 5) (cond d (closed new m) (cond r (answered 0) (answered 255))))))
+        go m e true b c d r = admitted-good
+        go m e false true c d r = restarted-good m e
+        go m e false false true d r = no-change 5
+        go m e false false false true r = closed-good m
+        go m e false false false false true = no-change 0
+        go m e false false false false false = no-change 255

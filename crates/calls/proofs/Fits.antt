@@ -1,7 +1,7 @@
 -- What a frame call writes has at most 2,008 octets, and a notice has fewer.
 use mathlib.Core.Path.{_≡_, refl}
 use mathlib.Core.Bool.{Bool, true, false, cond}
-use mathlib.Core.List.{List, []}
+use mathlib.Core.List.{List, [], _∷_}
 use Prim.Native.Nat.{ℕ, _+_, _≤_}
 use native.Mathlib.Nat.{min-le-left}
 use native.Mathlib.Omega.{arith}
@@ -12,11 +12,9 @@ use Rattle.octets.specs.Octets.{octets}
 use Rattle.octets.proofs.Laws.{octets-length}
 use Rattle.codec.specs.declared.Addressed.{Addressed}
 use Rattle.codec.specs.declared.Addressed.the-variants.{Elsewhere, Unicast, Multicast}
-use Rattle.codec.specs.declared.Place.{Place}
-use Rattle.codec.specs.declared.Place.the-variants.{NoSet, InSet}
 use Rattle.codec.specs.declared.Request.{Request}
 use Rattle.codec.specs.declared.Request.the-variants.{Malformed, Reserved, Activate, Deactivate, State as StateRequest}
-use Rattle.codec.specs.FrameSet.{placeOf, destination, source, pduOf}
+use Rattle.codec.specs.FrameSet.{Member, member, setsOf, destination, source, pduOf}
 use Rattle.codec_tlvs.specs.Tlv.{timers}
 use Rattle.codec.specs.Request.{malformed, byType, requestOf, copiesOf, levelOf, typeOf, tlvsOf}
 use Rattle.codec.specs.declared.Status.{Status}
@@ -35,8 +33,8 @@ use Rattle.calls.specs.Notice.{noticeFrame}
 use Rattle.calls.specs.declared.Answer.{Answer}
 use Rattle.calls.specs.declared.Answer.the-variants.{Forwarded, Dropped}
 use Rattle.calls.specs.Answer.{Sent, leaves, sends}
-use Rattle.calls.specs.Frame.{Arrived, pdu, own, byFate, dataServed, goesOn, replied, machineServed, answers}
-use Rattle.calls.specs.Frame.{requestServed, byWhom, forMp, inFlow, inPlace, frameServed}
+use Rattle.calls.specs.Frame.{Arrived, arrivedAt, pdu, own, byFate, dataServed, goesOn, replied, machineServed, answers}
+use Rattle.calls.specs.Frame.{requestServed, byWhom, forMp, inFlow, inSets, frameServed}
 
 abbrev Fits : Sent → Type 0
 Fits r = length (r .octets) ≤ 2008
@@ -50,17 +48,17 @@ module _ (s : State) (a : Arrived) (low : 14 ≤ length (a .frame)) (high : leng
   unfolding byFate sends
   fate-fits Forward = nothing-written s Forwarded
   fate-fits Drop = nothing-written s Dropped
-  fate-fits Loop = omega (arith, looped-length (a .port .address) (a .frame) (omega arith))
+  fate-fits Loop = omega (arith, looped-length (a .loopSource) (a .frame) (omega arith))
 
   module _ (enough : 12 ≤ length (pdu a)) where
-    tag-short : length (tagOf (a .tags) (a .frame)) + 14 + length (pdu a) ≤ length (a .frame)
+    tag-short : length (tagOf (a .taglen) (a .frame)) + 14 + length (pdu a) ≤ length (a .frame)
     unfolding tagOf pdu pduOf
     tag-short =
         omega (
           arith,
-          length-take (a .tags) (drop 12 (a .frame)),
-          min-le-left (a .tags) (length (drop 12 (a .frame))),
-          length-drop (14 + a .tags) (a .frame),
+          length-take (a .taglen) (drop 12 (a .frame)),
+          min-le-left (a .taglen) (length (drop 12 (a .frame))),
+          length-drop (14 + a .taglen) (a .frame),
           enough,
         )
 
@@ -71,8 +69,8 @@ module _ (s : State) (a : Arrived) (low : 14 ≤ length (a .frame)) (high : leng
         omega (
           arith,
           tag-short,
-          reply-short (source (a .frame)) (a .port .address) (levelOf (pdu a)) (typeOf (pdu a)) (a .port .address)
-              (tagOf (a .tags) (a .frame)) (statusOf (own s′ a)) code copies (length (pdu a)) h,
+          reply-short (source (a .frame)) (a .replySource) (levelOf (pdu a)) (typeOf (pdu a)) (a .port .address)
+              (tagOf (a .taglen) (a .frame)) (statusOf (own s′ a)) code copies (length (pdu a)) h,
         )
 
     malformed-fits : (whom : Addressed) → Fits (answers s a whom Malformed)
@@ -81,8 +79,8 @@ module _ (s : State) (a : Arrived) (low : 14 ≤ length (a .frame)) (high : leng
         omega (
           arith,
           tag-short,
-          malformed-reply-short (source (a .frame)) (a .port .address) (levelOf (pdu a)) (typeOf (pdu a)) (a .port .address)
-              (tagOf (a .tags) (a .frame)) (statusOf (own s a)),
+          malformed-reply-short (source (a .frame)) (a .replySource) (levelOf (pdu a)) (typeOf (pdu a)) (a .port .address)
+              (tagOf (a .taglen) (a .frame)) (statusOf (own s a)),
         )
 
     module _ (whom : Addressed) where
@@ -134,22 +132,22 @@ module _ (s : State) (a : Arrived) (low : 14 ≤ length (a .frame)) (high : leng
 
 pub frame-fits : (s : State) (port side : ℕ) (frame : List ℕ) → 14 ≤ length frame → length frame ≤ 2000
     → length (frameServed s port side frame .octets) ≤ 2008
-unfolding frameServed inPlace
-frame-fits s port side frame low high = go (placeOf (portNumbered port (s .plan) .kind) frame)
+unfolding frameServed inSets arrivedAt
+frame-fits s port side frame low high = go (setsOf (portNumbered port (s .plan) .kind) frame)
   where
-    go : (p : Place) → Fits (inPlace s (portNumbered port (s .plan)) side frame p)
-    go NoSet = nothing-written s Forwarded
-    go (InSet set tags) = flow-fits s _ low high
+    go : (sets : List Member) → Fits (inSets s (portNumbered port (s .plan)) side frame sets)
+    go [] = nothing-written s Forwarded
+    go (member set taglen ∷ more) = flow-fits s _ low high
 
 -- a notice has its tag and 27 octets more
-pub notice-length : (port : Port) (x : Session) → length (noticeFrame port x) ≡ 27 + x .count
+pub notice-length : (port : Port) (x : Session) → length (noticeFrame port x) ≡ 27 + x .taglen
 unfolding noticeFrame timerPart carriesTimer
 notice-length port x =
     let address : ℕ = port .address in
     let inactive : Status = statusOf Inactive in
     omega (
       arith,
-      frame-length (x .source) address (octets (x .count) (x .tag)) (replyPdu (x .level) 2 (x .notice) address inactive []),
+      frame-length (x .source) address (octets (x .taglen) (x .tag)) (replyPdu (x .level) 2 (x .notice) address inactive []),
       pdu-length (x .level) 2 (x .notice) address inactive [],
-      octets-length (x .count) (x .tag),
+      octets-length (x .taglen) (x .tag),
     )

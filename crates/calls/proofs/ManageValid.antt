@@ -1,7 +1,7 @@
 -- Allow and prohibit leave a valid state.
 use mathlib.Core.Path.{_≡_, refl}
 use mathlib.Core.Bool.{Bool, true, false, cond, _&&_}
-use mathlib.Core.List.{List, map}
+use mathlib.Core.List.{List, [], _∷_, map}
 use Prim.Native.Nat.{ℕ, _-_, _≤_}
 use native.Mathlib.Omega.{arith}
 use lib.Dec.{eqb}
@@ -14,11 +14,12 @@ use Rattle.octets.proofs.Ordered.{map-ascends}
 use Rattle.machine.specs.declared.Session.{Session}
 use Rattle.machine.specs.declared.Machine.the-variants.{Inactive}
 use Rattle.machine.specs.Table.{active, mgmt-allow, mgmt-prohibit, actionOf}
-use Rattle.machine.specs.Machine.{keyOf, isOpen, owed, activity, conditionOf, closedBy, withdrawn, allowedAfter}
+use Rattle.machine.specs.Machine.{keyOf, isOpen, owed, activity, conditionOf}
+use Rattle.machine.specs.Management.{closedBy, managedBy, allowedAfter}
 use Rattle.plan.specs.Plan.{flowNumbered, inPlan}
-use Rattle.state.specs.State.{State, withSessions, isAllowed, goodTime, goodSession, noticeDue, valid}
+use Rattle.state.specs.State.{State, withSessions, isAllowed, goodTime, goodSession, noticeDue, valid, withAllowed}
 use Rattle.state.proofs.Rules.{Valid, valid-parts}
-use Rattle.calls.specs.Calls.{managed, prohibitedBy}
+use Rattle.calls.specs.Calls.{managed}
 use Rattle.calls.proofs.Standing.{stands, good-parts, good-whole, stands-flow, open-time, time-open}
 use Rattle.calls.proofs.Flags.{set-true, set-false, flagged, some-flow, flagged-valid}
 
@@ -34,13 +35,31 @@ unfolding allowedAfter actionOf conditionOf activity
 after-prohibit true = refl
 after-prohibit false = refl
 
+-- ---- what they do to the flow's sessions
+
+module _ (flow : ℕ) where
+  abbrev pub withdrawn : Session → Session
+  withdrawn = managedBy (actionOf active mgmt-prohibit) flow
+
+  left-open : (x : Session) → managedBy (actionOf active mgmt-allow) flow x ≡ x
+  unfolding managedBy closedBy actionOf
+  left-open x = go (isOpen x && eqb (x .flow) flow)
+    where
+      go : (b : Bool) → cond b x x ≡ x
+      go true = refl
+      go false = refl
+
+  all-left : (xs : List Session) → map (managedBy (actionOf active mgmt-allow) flow) xs ≡ xs
+  all-left [] = refl
+  all-left (x ∷ xs) = rw (left-open x, all-left xs)
+
 module _ (s : State) (flow : ℕ) where
   pub allow-flagged : managed mgmt-allow flow s ≡ flagged s flow true (s .sessions)
-  unfolding managed
-  allow-flagged = rw (after-allow (isAllowed flow s))
+  unfolding managed withSessions withAllowed
+  allow-flagged = rw (after-allow (isAllowed flow s), all-left flow (s .sessions))
 
-  pub prohibit-flagged : prohibitedBy flow s ≡ flagged s flow false (map (withdrawn flow) (s .sessions))
-  unfolding prohibitedBy managed withSessions
+  pub prohibit-flagged : managed mgmt-prohibit flow s ≡ flagged s flow false (map (withdrawn flow) (s .sessions))
+  unfolding managed withSessions withAllowed
   prohibit-flagged = rw (after-prohibit (isAllowed flow s))
 
 module _ (s : State) (flow : ℕ) (h : valid s ≡ true) (there : inPlan (flowNumbered flow (s .plan) .number) ≡ true) where
@@ -71,7 +90,7 @@ module _ (s : State) (flow : ℕ) (h : valid s ≡ true) (there : inPlan (flowNu
     -- ---- prohibit: its sessions are owed code 9, others stay
 
     pub withdrawn-key : (x : Session) → keyOf (withdrawn flow x) ≡ keyOf x
-    unfolding withdrawn keyOf closedBy actionOf owed
+    unfolding managedBy keyOf closedBy actionOf owed
     withdrawn-key x = go (isOpen x && eqb (x .flow) flow)
       where
         go : (b : Bool) → keyOf (cond b (closedBy (actionOf active mgmt-prohibit) x) x) ≡ keyOf x
@@ -97,13 +116,13 @@ module _ (s : State) (flow : ℕ) (h : valid s ≡ true) (there : inPlan (flowNu
           good-whole (flagged s flow false xs) x (p .0) (rw as-was (p .1))
 
       prohibit-good : isOpen x ≡ true → goodSession s x ≡ true → goodSession (flagged s flow false xs) (withdrawn flow x) ≡ true
-      unfolding withdrawn closedBy actionOf
+      unfolding managedBy closedBy actionOf
       prohibit-good o g =
           by-eq (x .flow) flow
           (λ e same. rw (o, e) (closed-good (good-parts s x g .0) same))
           (λ e other. rw (o, e) (other-good o g other))
 
-    pub prohibit-valid : valid (prohibitedBy flow s) ≡ true
+    pub prohibit-valid : valid (managed mgmt-prohibit flow s) ≡ true
     prohibit-valid =
         let v : Valid s = valid-parts s h in
         let f : Session → Session = withdrawn flow in

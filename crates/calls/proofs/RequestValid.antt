@@ -18,7 +18,7 @@ use Rattle.machine.specs.Table.{Event, rqst-activate, rqst-deactivate, rqst-sta
 use Rattle.machine.specs.Machine.{isOpen}
 use Rattle.plan.specs.declared.Flow.{Flow}
 use Rattle.plan.specs.Plan.{flowNumbered, inPlan, faces}
-use Rattle.state.specs.State.{State, isAllowed, roomFor, noticeDue, valid}
+use Rattle.state.specs.State.{State, isAllowed, fullFor, noticeDue, valid}
 use Rattle.state.proofs.Rules.{valid-parts}
 use Rattle.calls.specs.declared.Answer.the-variants.{Forwarded, Dropped}
 use Rattle.calls.specs.Answer.{Sent, leaves, sends}
@@ -37,7 +37,7 @@ pub record Brings (s : State) (a : Arrived) : Type 0 where
   pub numbered : flowNumbered (a .flow .number) (s .plan) ≡ a .flow
   pub source-fits : source (a .frame) < 2 ^ 48
   pub unicast : group (source (a .frame)) ≡ false
-  pub fits : tagFits (setOf (a .flow .kind) (a .flow .vid)) (a .tags) (number (a .tags) (drop 12 (a .frame))) ≡ true
+  pub fits : tagFits (setOf (a .flow .kind) (a .flow .vid)) (a .taglen) (number (a .taglen) (drop 12 (a .frame))) ≡ true
 
 new-stands : (s : State) (a : Arrived) → Brings s a → inPlan (a .flow .number) ≡ true → faces (mpOf a) (a .side) ≡ true
     → stands (s .plan) (newSession a) ≡ true
@@ -46,8 +46,8 @@ new-stands s a b there faced =
     rw (b .numbered, there, lt-ltb (source (a .frame)) (2 ^ 48) (b .source-fits), b .unicast, b .fits, faced)
 
 -- With no notice due, the open sessions are all: fewer than 16 leave room for one more.
-space : (s : State) (flow : Flow) → noticeDue s ≡ false → eqb (roomFor flow s) 0 ≡ true → length (s .sessions) < 16
-unfolding noticeDue roomFor
+space : (s : State) (flow : Flow) → noticeDue s ≡ false → eqb (fullFor flow s) 0 ≡ true → length (s .sessions) < 16
+unfolding noticeDue fullFor
 space s flow settled h = go (ltb (count isOpen (s .sessions)) 16) refl h
   where
     go : (b : Bool) → ltb (count isOpen (s .sessions)) 16 ≡ b → eqb (cond b 0 2) 0 ≡ true → length (s .sessions) < 16
@@ -67,7 +67,7 @@ module _ (s : State) (h : valid s ≡ true) (settled : noticeDue s ≡ false) wh
         unfolding machineServed replied sends decides own newSession isOpen
         machine-valid e seconds =
             changed-valid s h (ownKey a) (decides s a e seconds .change)
-            (decided-good s (ownKey a) (valid-parts s h .sessions-good) (roomFor (a .flow) s) seconds (newSession a)
+            (decided-good s (ownKey a) (valid-parts s h .sessions-good) (fullFor (a .flow) s) seconds (newSession a)
             (space s (a .flow) settled) (new-stands s a b there faced) may refl (ownAction s a e))
 
         answers-valid : (r : Request) → Leaves (answers s a whom r)

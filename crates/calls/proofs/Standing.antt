@@ -24,7 +24,7 @@ stands plan x =
     inPlan (flowNumbered (x .flow) plan .number)
     && ltb (x .source) (2 ^ 48)
     && not (group (x .source))
-    && tagFits (setOf (flowNumbered (x .flow) plan .kind) (flowNumbered (x .flow) plan .vid)) (x .count) (x .tag)
+    && tagFits (setOf (flowNumbered (x .flow) plan .kind) (flowNumbered (x .flow) plan .vid)) (x .taglen) (x .tag)
     && faces (mpAt (x .level) (flowNumbered (x .flow) plan)) (x .side)
 
 pub good-parts : (s : State) (x : Session) → goodSession s x ≡ true
@@ -44,7 +44,7 @@ stands-flow plan x h =
     let a : Bool = inPlan (flowNumbered (x .flow) plan .number) in
     let b : Bool = ltb (x .source) (2 ^ 48) in
     let c : Bool = not (group (x .source)) in
-    let d : Bool = tagFits (setOf (flowNumbered (x .flow) plan .kind) (flowNumbered (x .flow) plan .vid)) (x .count) (x .tag) in
+    let d : Bool = tagFits (setOf (flowNumbered (x .flow) plan .kind) (flowNumbered (x .flow) plan .vid)) (x .taglen) (x .tag) in
     let t4 : _ = both-true (a && b && c && d) (faces (mpAt (x .level) (flowNumbered (x .flow) plan)) (x .side)) h in
     let t3 : _ = both-true (a && b && c) d (t4 .0) in
     let t2 : _ = both-true (a && b) c (t3 .0) in

@@ -11,10 +11,11 @@ use Rattle.octets.proofs.ListLaws.{every-such, every-map, within-high}
 use Rattle.octets.proofs.Ordered.{map-ascends}
 use Rattle.machine.specs.declared.Session.{Session}
 use Rattle.machine.specs.Table.{actionOf}
-use Rattle.machine.specs.Machine.{keyOf, isOpen, lasting, owed, closedBy}
+use Rattle.machine.specs.Machine.{keyOf, isOpen, lasting, owed}
+use Rattle.machine.specs.Management.{closedBy}
 use Rattle.machine.specs.Time.{elapsed, ticked}
 use Rattle.plan.specs.Plan.{Plan}
-use Rattle.state.specs.State.{State, isAllowed, goodTime, goodSession, valid}
+use Rattle.state.specs.State.{State, isAllowed, goodTime, goodSession, valid, withSessions, withClock}
 use Rattle.state.proofs.Rules.{Valid, valid-parts}
 use Rattle.calls.specs.Calls.{tickedTo}
 use Rattle.calls.proofs.Standing.{stands, good-parts, good-whole, open-time, valid-whole}
@@ -60,7 +61,7 @@ ticked-good s e x h =
     good-whole s (ticked e x) (ticked-stands e x (s .plan) (g .0)) (rw a (ticked-time e x (isAllowed (x .flow) s) (g .1)))
 
 pub tick-valid : (s : State) (clock : ℕ) → clock < 2 ^ 32 → valid s ≡ true → valid (tickedTo clock s) ≡ true
-unfolding tickedTo goodSession isAllowed
+unfolding tickedTo goodSession isAllowed withClock withSessions
 tick-valid s clock small h =
     let v : Valid s = valid-parts s h in
     let e : ℕ = elapsed clock (s .clock) in

@@ -9,11 +9,11 @@ use Rattle.octets.specs.Octets.{over, same}
 use Rattle.octets.specs.Text.{text, hex}
 use Rattle.codec.specs.FrameSet.{cen}
 use Rattle.plan.specs.PlanText.{emptyPlan}
-use Rattle.state.specs.State.{State}
+use Rattle.state.specs.State.{State, made}
 use Rattle.calls.specs.declared.Answer.{Answer}
 use Rattle.calls.specs.declared.Answer.the-variants.{Refused, Forwarded, Replied, Noticed}
 use Rattle.calls.specs.Answer.{numberOf}
-use Rattle.calls.specs.Calls.{Call, make, frame, tick, allow, notice, restart, call, made}
+use Rattle.calls.specs.Calls.{Call, make, frame, tick, allow, notice, restart, call}
 
 -- the calls before, a call, what it must answer, and what the output that it lends must then hold
 pub data Case : Type 0 where

@@ -2,18 +2,19 @@
 use mathlib.Core.List.{List, [], map}
 use mathlib.Core.Bool.{Bool, true, false, cond, _&&_, _||_, not}
 use Prim.Native.Nat.{ℕ, _-_}
-use lib.ListN.{length, replicate, set}
+use lib.ListN.{length, set}
 use lib.Dec.{eqb, ltb}
 use Rattle.octets.specs.Octets.{over}
 use Rattle.octets.specs.Lists.{within}
 use Rattle.codec.specs.FrameSet.{external, cen}
 use Rattle.machine.specs.declared.Machine.the-variants.{Inactive}
-use Rattle.machine.specs.Table.{Event, mgmt-allow, mgmt-prohibit, actionOf}
-use Rattle.machine.specs.Machine.{conditionOf, allowedAfter, withdrawn}
+use Rattle.machine.specs.Table.{Event, active, mgmt-allow, mgmt-prohibit, actionOf}
+use Rattle.machine.specs.Machine.{conditionOf}
+use Rattle.machine.specs.Management.{managedBy, allowedAfter}
 use Rattle.machine.specs.Time.{elapsed, jumped, ticked}
 use Rattle.plan.specs.Plan.{Plan, portNumbered, flowNumbered, inPlan}
 use Rattle.plan.specs.PlanText.{Reading, fault, planned, planIn}
-use Rattle.state.specs.State.{State, withSessions, isAllowed, noticeDue}
+use Rattle.state.specs.State.{State, withClock, withAllowed, withSessions, made, isAllowed, noticeDue}
 use Rattle.state.specs.Image.{image, stateOf, okImage}
 use Rattle.calls.specs.declared.Answer.{Answer}
 use Rattle.calls.specs.declared.Answer.the-variants.{
@@ -71,41 +72,25 @@ refusal s (prohibit flow) = cond (noticeDue s) 4 (cond (noSuchFlow s flow) 6 0)
 refusal s (notice out) = cond (shortOutput out) 3 (cond (noticeDue s) 0 7)
 refusal s (restart clock) = 0
 
--- Flows start prohibited and the clock at the reading given.
-unfoldable pub made : Plan → ℕ → State
-made plan clock = record { plan = plan; clock = clock; allowed = replicate 32 false; sessions = [] }
-
 unfoldable pub makeServed : State → ℕ → Reading → Sent
 makeServed s clock (fault line reason) = leaves (Faulty line reason) s
 makeServed s clock (planned plan) = leaves Done (made plan clock)
 
 unfoldable pub tickedTo : ℕ → State → State
 tickedTo reading s =
-    record {
-      plan = s .plan;
-      clock = reading;
-      allowed = s .allowed;
-      sessions = map (ticked (elapsed reading (s .clock))) (s .sessions);
-    }
+    withClock reading (withSessions (map (ticked (elapsed reading (s .clock))) (s .sessions)) s)
 
--- Allow lifts a prohibition; prohibit makes one. Repeating either changes nothing.
+-- Allow lifts a prohibition. Prohibit makes one, closes each of the flow's sessions and makes code 9 notices due. Repeating either
+-- changes nothing. The table says it of the flow as of a machine without a session, and of each open session.
 unfoldable pub managed : Event → ℕ → State → State
 managed e flow s =
     let now = isAllowed flow s in
-    record {
-      plan = s .plan;
-      clock = s .clock;
-      allowed = set (s .allowed) (flow - 1) (allowedAfter (actionOf (conditionOf now Inactive) e) now);
-      sessions = s .sessions;
-    }
-
--- Prohibit closes each of the flow's sessions and makes code 9 notices due.
-unfoldable pub prohibitedBy : ℕ → State → State
-prohibitedBy flow s = withSessions (map (withdrawn flow) (s .sessions)) (managed mgmt-prohibit flow s)
+    withAllowed (set (s .allowed) (flow - 1) (allowedAfter (actionOf (conditionOf now Inactive) e) now))
+    (withSessions (map (managedBy (actionOf active e) flow) (s .sessions)) s)
 
 -- Restart closes all, drops notices, keeps prohibitions and takes the new reading.
 unfoldable pub restartedAt : ℕ → State → State
-restartedAt reading s = record { plan = s .plan; clock = reading; allowed = s .allowed; sessions = [] }
+restartedAt reading s = withClock reading (withSessions [] s)
 
 -- A call that is not refused.
 unfoldable pub served : State → Call → Sent
@@ -113,7 +98,7 @@ served s (make text clock) = makeServed s clock (planIn text)
 served s (frame port side octets out) = frameServed s port side octets
 served s (tick clock) = leaves Done (tickedTo clock s)
 served s (allow flow) = leaves Done (managed mgmt-allow flow s)
-served s (prohibit flow) = leaves Done (prohibitedBy flow s)
+served s (prohibit flow) = leaves Done (managed mgmt-prohibit flow s)
 served s (notice out) = noticeServed s
 served s (restart clock) = leaves Done (restartedAt clock s)
 

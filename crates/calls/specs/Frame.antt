@@ -1,18 +1,17 @@
 -- A frame call that is not refused: "Finding the machine", "Requests at an MP" and "Machine", joined.
-use mathlib.Core.List.{List, []}
+use mathlib.Core.List.{List, [], _∷_}
 use mathlib.Core.Bool.{Bool, false, cond, _&&_}
 use Prim.Native.Nat.{ℕ}
 use lib.ListN.{length, drop}
 use lib.Dec.{eqb, ltb}
 use Rattle.octets.specs.Octets.{number}
 use Rattle.octets.specs.Lists.{put, without}
-use Rattle.codec.specs.declared.Place.{Place}
-use Rattle.codec.specs.declared.Place.the-variants.{NoSet, InSet}
+use Rattle.codec.specs.declared.FrameSet.{FrameSet}
 use Rattle.codec.specs.declared.Addressed.{Addressed}
 use Rattle.codec.specs.declared.Addressed.the-variants.{Elsewhere, Unicast, Multicast}
 use Rattle.codec.specs.declared.Request.{Request}
 use Rattle.codec.specs.declared.Request.the-variants.{Malformed, Reserved, Activate, Deactivate, State as StateRequest}
-use Rattle.codec.specs.FrameSet.{placeOf, destination, source, soam, pduOf}
+use Rattle.codec.specs.FrameSet.{Member, member, setsOf, destination, source, soam, pduOf}
 use Rattle.codec.specs.Request.{isRequest, addressed, requestOf, copiesOf, levelOf, typeOf}
 use Rattle.codec_replies.specs.Reply.{replyFrame, replyPdu, tagOf, looped}
 use Rattle.machine.specs.declared.Session.{Session}
@@ -26,21 +25,39 @@ use Rattle.machine.specs.Table.{Event, rqst-activate, rqst-deactivate, rqst-sta
 use Rattle.machine.specs.Machine.{key, keyOf, conditionOf, decided, fateOf, dataEvent, statusOf}
 use Rattle.plan.specs.declared.Port.{Port}
 use Rattle.plan.specs.declared.Flow.{Flow}
-use Rattle.plan.specs.Plan.{portNumbered, flowOfSet, inPlan, mpAt, mip, faces}
-use Rattle.state.specs.State.{State, withSessions, isAllowed, machineOf, roomFor}
+use Rattle.plan.specs.Plan.{Plan, portNumbered, flowOfSet, inPlan, mpAt, mip, faces}
+use Rattle.state.specs.State.{State, withSessions, isAllowed, machineOf, fullFor}
 use Rattle.calls.specs.declared.Answer.the-variants.{Forwarded, Dropped, Looped, Replied, RepliedForwarded}
 use Rattle.calls.specs.Answer.{Sent, leaves, sends}
 
--- a frame with its port, side and flow, and the count of its set's tag octets
+-- A frame that arrived, in one of its sets. It has the number of the port that it arrived at, the port whose machine it is for, the
+-- source of a reply to it and the source of a looped group frame; its side, its flow, and how many octets of tag its set has.
 pub record Arrived : Type 0 where
+  pub arrival : ℕ
   pub port : Port
+  pub replySource : ℕ
+  pub loopSource : ℕ
   pub side : ℕ
   pub flow : Flow
-  pub tags : ℕ
+  pub taglen : ℕ
   pub frame : List ℕ
 
+-- All four are of the port that it arrived at.
+unfoldable pub arrivedAt : Plan → Port → ℕ → List ℕ → FrameSet → ℕ → Arrived
+arrivedAt plan p side frame set taglen =
+    record {
+      arrival = p .number;
+      port = p;
+      replySource = p .address;
+      loopSource = p .address;
+      side = side;
+      flow = flowOfSet (p .number) set plan;
+      taglen = taglen;
+      frame = frame;
+    }
+
 unfoldable pub pdu : Arrived → List ℕ
-pdu a = pduOf (a .tags) (a .frame)
+pdu a = pduOf (a .taglen) (a .frame)
 
 -- the MP of its flow at its level
 unfoldable pub mpOf : Arrived → ℕ
@@ -50,7 +67,7 @@ mpOf a = mpAt (levelOf (pdu a)) (a .flow)
 -- the port or the level's group. Anything else is data.
 unfoldable pub forMp : Arrived → Addressed
 forMp a =
-    cond (isRequest (a .tags) (a .frame) && faces (mpOf a) (a .side))
+    cond (isRequest (a .taglen) (a .frame) && faces (mpOf a) (a .side))
     (addressed (a .port .address) (destination (a .frame)) (pdu a))
     Elsewhere
 
@@ -68,12 +85,12 @@ ownAction s a e = actionOf (conditionOf (isAllowed (a .flow .number) s) (own s a
 unfoldable pub byFate : State → Arrived → Fate → Sent
 byFate s a Forward = leaves Forwarded s
 byFate s a Drop = leaves Dropped s
-byFate s a Loop = sends Looped s (looped (a .port .address) (a .frame))
+byFate s a Loop = sends Looped s (looped (a .loopSource) (a .frame))
 
 unfoldable pub dataServed : State → Arrived → Sent
 dataServed s a =
     byFate s a
-    (fateOf (ownAction s a (dataEvent (a .side))) (soam (a .tags) (a .frame)) (levelOf (pdu a)) (a .side) (own s a))
+    (fateOf (ownAction s a (dataEvent (a .side))) (soam (a .taglen) (a .frame)) (levelOf (pdu a)) (a .side) (own s a))
 
 -- a multicast request at a MIP goes on to others
 unfoldable pub goesOn : Arrived → Addressed → Bool
@@ -89,8 +106,8 @@ newSession a =
       source = source (a .frame);
       level = levelOf (pdu a);
       side = a .side;
-      count = a .tags;
-      tag = number (a .tags) (drop 12 (a .frame));
+      taglen = a .taglen;
+      tag = number (a .taglen) (drop 12 (a .frame));
       left = 0;
       notice = 0;
     }
@@ -106,12 +123,12 @@ changed k Closed s = withSessions (without keyOf k (s .sessions)) s
 unfoldable pub replied : State → Arrived → Addressed → ℕ → List ℕ → Sent
 replied s a whom code copies =
     sends (cond (goesOn a whom) RepliedForwarded Replied) s
-    (replyFrame (source (a .frame)) (a .port .address) (tagOf (a .tags) (a .frame))
+    (replyFrame (source (a .frame)) (a .replySource) (tagOf (a .taglen) (a .frame))
     (replyPdu (levelOf (pdu a)) (typeOf (pdu a)) code (a .port .address) (statusOf (own s a)) copies))
 
 -- The machine decides.
 unfoldable pub decides : State → Arrived → Event → ℕ → Decided
-decides s a e seconds = decided (ownAction s a e) (roomFor (a .flow) s) seconds (newSession a) (own s a)
+decides s a e seconds = decided (ownAction s a e) (fullFor (a .flow) s) seconds (newSession a) (own s a)
 
 unfoldable pub machineServed : State → Arrived → Addressed → Event → ℕ → Sent
 machineServed s a whom e seconds =
@@ -142,12 +159,11 @@ byWhom s a Multicast = requestServed s a Multicast
 unfoldable pub inFlow : State → Arrived → Sent
 inFlow s a = cond (inPlan (a .flow .number)) (byWhom s a (forMp a)) (leaves Forwarded s)
 
-unfoldable pub inPlace : State → Port → ℕ → List ℕ → Place → Sent
-inPlace s port side frame NoSet = leaves Forwarded s
-inPlace s port side frame (InSet set tags) =
-    inFlow s
-    (record { port = port; side = side; flow = flowOfSet (port .number) set (s .plan); tags = tags; frame = frame })
+-- A frame has at most one set; one without a set is forwarded.
+unfoldable pub inSets : State → Port → ℕ → List ℕ → List Member → Sent
+inSets s port side frame [] = leaves Forwarded s
+inSets s port side frame (member set taglen ∷ more) = inFlow s (arrivedAt (s .plan) port side frame set taglen)
 
 unfoldable pub frameServed : State → ℕ → ℕ → List ℕ → Sent
 frameServed s port side frame =
-    inPlace s (portNumbered port (s .plan)) side frame (placeOf (portNumbered port (s .plan) .kind) frame)
+    inSets s (portNumbered port (s .plan)) side frame (setsOf (portNumbered port (s .plan) .kind) frame)

@@ -20,7 +20,7 @@ portOf s x = portNumbered (flowNumbered (x .flow) (s .plan) .port) (s .plan)
 -- A notice is a type 2 reply with the tag and level of the session's first Activate.
 unfoldable pub noticeFrame : Port → Session → List ℕ
 noticeFrame port x =
-    replyFrame (x .source) (port .address) (octets (x .count) (x .tag))
+    replyFrame (x .source) (port .address) (octets (x .taglen) (x .tag))
     (replyPdu (x .level) 2 (x .notice) (port .address) (statusOf Inactive) [])
 
 -- It leaves with the closed session's port and side, and the session is gone.

@@ -1,5 +1,5 @@
 -- A request read and a reply written: what is copied, how long the reply is, and what is sent with it.
-use mathlib.Core.Path.{_≡_, refl, sym}
+use mathlib.Core.Path.{_≡_, refl, sym, _∙_}
 use mathlib.Core.Bool.{Bool, true, false, cond}
 use mathlib.Core.List.{List, []}
 use Prim.Native.Nat.{ℕ, _+_, _≤_}
@@ -11,8 +11,8 @@ use Rattle.octets.proofs.Cases.{by-eq}
 use Rattle.codec.specs.declared.Status.{Status}
 use Rattle.codec.specs.declared.Addressed.{Addressed}
 use Rattle.codec.specs.declared.Read.{Read}
-use Rattle.codec.specs.FrameSet.{source, pduOf}
-use Rattle.codec.specs.Request.{levelOf, typeOf, malformed, requestOf, copiesOf, readOf, copied}
+use Rattle.codec.specs.FrameSet.{pduOf}
+use Rattle.codec.specs.Request.{malformed, requestOf, copiesOf, readOf, copied}
 use Rattle.codec.proofs.Short.{copies-short}
 use Rattle.codec_replies.specs.declared.ReplyFields.{ReplyFields}
 use Rattle.codec_replies.specs.Reply.{replyFrame, replyPdu, replyOf, tagOf}
@@ -23,33 +23,34 @@ use Rattle.state.specs.Image.{image}
 use Rattle.calls.specs.declared.Answer.{Answer}
 use Rattle.calls.specs.declared.Answer.the-variants.{Replied, RepliedForwarded}
 use Rattle.calls.specs.Answer.{sends}
-use Rattle.calls.specs.Frame.{pdu, own, goesOn, replied}
-use Rattle.calls_requests.specs.declared.Coming.{Coming}
-use Rattle.calls_requests.specs.Arrival.{Served, arrivedIn}
+use Rattle.calls.specs.Frame.{pdu, own, replied}
+use Rattle.calls_requests.specs.declared.Arrival.{Arrival}
+use Rattle.calls_requests.specs.Arrival.{Known, Served, arrivedIn, onward}
+use Rattle.calls_requests.proofs.Arrivals.{source-is, level-is, kind-is, onward-is}
 
 -- ---- a reply written
 
-module _ (tags from copies : ℕ) (frame : List ℕ) (r : ReplyFields) where
+module _ (taglen to from copies : ℕ) (frame : List ℕ) (r : ReplyFields) where
   abbrev said : List ℕ
-  said = replyOf r copies (pduOf tags frame)
+  said = replyOf r copies (pduOf taglen frame)
 
   abbrev whole : List ℕ
-  whole = replyFrame (source frame) from (tagOf tags frame) said
+  whole = replyFrame to from (tagOf taglen frame) said
 
-  module _ {n : ℕ} (long : 14 + tags ≤ length frame) (e : n ≡ 14 + tags + length said) where
+  module _ {n : ℕ} (long : 14 + taglen ≤ length frame) (e : n ≡ 14 + taglen + length said) where
     reply-length : n ≡ length whole
     unfolding tagOf
     reply-length =
         omega (
           arith,
-          frame-length (source frame) from (tagOf tags frame) said,
-          length-take-le tags (drop 12 frame) (omega (arith, length-drop 12 frame)),
+          frame-length to from (tagOf taglen frame) said,
+          length-take-le taglen (drop 12 frame) (omega (arith, length-drop 12 frame)),
         )
 
-    pub reply-small : copies ≡ length (copied copies (pduOf tags frame)) → n ≤ 35 + tags + copies
+    pub reply-small : copies ≡ length (copied copies (pduOf taglen frame)) → n ≤ 35 + taglen + copies
     unfolding replyOf
     reply-small right =
-        let l : List ℕ = copied copies (pduOf tags frame) in
+        let l : List ℕ = copied copies (pduOf taglen frame) in
         omega (
           arith,
           pdu-length (r .level) (r .kind) (r .code) (r .port) (r .status) l,
@@ -62,21 +63,20 @@ module _ (tags from copies : ℕ) (frame : List ℕ) (r : ReplyFields) where
     unfolding sends
     reply-served on w ea s = record { answered = rw reply-length at ea; stored = refl; written = w }
 
--- the octets of a reply to a frame that came
-abbrev pub replyTo : Coming → List ℕ → ℕ → Status → List ℕ → List ℕ
+-- the octets of a reply to a frame that arrived
+abbrev pub replyTo : Arrival → List ℕ → ℕ → Status → List ℕ → List ℕ
 replyTo a frame code status copies =
-    let p : List ℕ = pduOf (a .tags) frame in
-    replyFrame (source frame) (a .port .address) (tagOf (a .tags) frame)
-    (replyPdu (levelOf p) (typeOf p) code (a .port .address) status copies)
+    replyFrame (a .heading .source) (a .replier) (tagOf (a .taglen) frame)
+    (replyPdu (a .heading .level) (a .heading .kind) code (a .port .address) status copies)
 
-pub replied-served : (b : List ℕ) (a : Coming) (frame : List ℕ) (whom : Addressed) (s : State) (on : Bool) (code : ℕ)
+pub replied-served : (b : List ℕ) (a : Arrival) (frame : List ℕ) → Known b a frame → (whom : Addressed) (s : State) (on : Bool) (code : ℕ)
     (status : Status) (copies : List ℕ) {r : Answer} {left before later : List ℕ}
     → Served (sends (cond on RepliedForwarded Replied) s (replyTo a frame code status copies)) r (image s) before later
-    → on ≡ goesOn (arrivedIn b a frame) whom → status ≡ statusOf (own s (arrivedIn b a frame)) → left ≡ image s
+    → on ≡ onward a whom → status ≡ statusOf (own s (arrivedIn b a frame)) → left ≡ image s
     → Served (replied s (arrivedIn b a frame) whom code copies) r left before later
 unfolding replied sends pdu arrivedIn
-replied-served b a frame whom s on code status copies h eo es el =
-    let g : _ = rw (eo, es) at h in
+replied-served b a frame k whom s on code status copies h eo es el =
+    let g : _ = rw (eo ∙ onward-is k whom, es, source-is k, level-is k, kind-is k) at h in
     record { answered = g .answered; stored = el; written = g .written }
 
 -- ---- what a reply copies
@@ -108,10 +108,10 @@ module _ (whom : Addressed) (to : ℕ) (p : List ℕ) {r : Read} (read : r ≡ r
       go true e = rw e
       go false e = copied-all p e
 
-  pub copies-fit : (tags : ℕ) → tags ≤ 4 → 14 + tags + length p ≤ 2000 → 35 + tags + r .copies ≤ 2008
-  copies-fit tags few fits = go (malformed whom to p) refl count
+  pub copies-fit : (taglen : ℕ) → taglen ≤ 4 → 14 + taglen + length p ≤ 2000 → 35 + taglen + r .copies ≤ 2008
+  copies-fit taglen few fits = go (malformed whom to p) refl count
     where
       go : (bad : Bool) → malformed whom to p ≡ bad → r .copies ≡ cond bad 0 (length (copiesOf p))
-          → 35 + tags + r .copies ≤ 2008
+          → 35 + taglen + r .copies ≤ 2008
       go true e n = omega (arith, n)
       go false e n = omega (arith, n, copies-short whom to p e)

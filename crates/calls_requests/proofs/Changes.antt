@@ -14,10 +14,10 @@ use Rattle.machine.specs.declared.Machine.{Machine}
 use Rattle.machine.specs.declared.Machine.the-variants.{Inactive, Active}
 use Rattle.machine.specs.declared.Change.{Change}
 use Rattle.machine.specs.declared.Change.the-variants.{Same, Opened, Restarted, Closed}
-use Rattle.machine.specs.Table.{Event, admit, restart, already, close}
+use Rattle.machine.specs.Table.{Event, admit, report, restart, already, close}
 use Rattle.machine.specs.Machine.{key, keyOf, isOpen, lasting, goodSeconds, answered, admitted, sameMp, refreshed, restarted}
 use Rattle.machine.specs.Machine.{closed, decided, after}
-use Rattle.state.specs.State.{State, withSessions, valid, roomFor, noticeDue}
+use Rattle.state.specs.State.{State, withSessions, valid, fullFor, noticeDue}
 use Rattle.state.proofs.RowLaws.{SessionFits}
 use Rattle.state_store.proofs.Images.{Laid, laid}
 use Rattle.calls.specs.Frame.{Arrived, ownKey, own, ownAction, newSession, changed, decides}
@@ -53,8 +53,8 @@ module _ (s : State) (x : Arrived) where
   put-fits Closed p y e = never-active y e
 
   module _ (v : valid s ≡ true) (quiet : noticeDue s ≡ false) (fits : source (x .frame) < 2 ^ 48) where
-    few-open : roomFor (x .flow) s ≡ 0 → length (s .sessions) < 16
-    unfolding roomFor noticeDue
+    few-open : fullFor (x .flow) s ≡ 0 → length (s .sessions) < 16
+    unfolding fullFor noticeDue
     few-open r = go (ltb n 16) refl r
       where
         n : ℕ
@@ -64,7 +64,7 @@ module _ (s : State) (x : Arrived) where
         go true e z = omega (arith, ltb-true n 16 e, all-open (s .sessions) quiet)
         go false e z = absurd (omega arith)
 
-    opened-fits : (ms : ℕ) → roomFor (x .flow) s ≡ 0 → Fitting (lasting ms (newSession x))
+    opened-fits : (ms : ℕ) → fullFor (x .flow) s ≡ 0 → Fitting (lasting ms (newSession x))
     unfolding lasting newSession keyOf ownKey isOpen
     opened-fits ms r =
         record {
@@ -89,18 +89,18 @@ module _ (s : State) (x : Arrived) where
           room = omega (arith, again, l .tabled .few);
         }
 
-    admitted-puts : (seconds : ℕ) → Puts (admitted (roomFor (x .flow) s) seconds (newSession x) .change)
+    admitted-puts : (seconds : ℕ) → Puts (admitted (fullFor (x .flow) s) seconds (newSession x) .change)
     unfolding admitted answered
-    admitted-puts seconds = go (goodSeconds seconds) (eqb room 0) refl
+    admitted-puts seconds = go (goodSeconds seconds) (eqb full 0) refl
       where
-        room : ℕ
-        room = roomFor (x .flow) s
+        full : ℕ
+        full = fullFor (x .flow) s
 
-        go : (good free : Bool) → eqb room 0 ≡ free
+        go : (good free : Bool) → eqb full 0 ≡ free
             → Puts (cond good
-            (cond free (record { code = 0; change = Opened (lasting (seconds * 1000) (newSession x)) }) (answered room))
+            (cond free (record { code = 0; change = Opened (lasting (seconds * 1000) (newSession x)) }) (answered full))
             (answered 6) .change)
-        go true true e = opened-fits (seconds * 1000) (eqb-true room 0 e)
+        go true true e = opened-fits (seconds * 1000) (eqb-true full 0 e)
         go true false e = tt
         go false free e = tt
 
@@ -131,7 +131,8 @@ module _ (s : State) (x : Arrived) where
 
     pub decided-puts : (e : Event) (seconds : ℕ) → Puts (decides s x e seconds .change)
     unfolding decides decided answered
-    decided-puts e seconds = go (eqb action admit) (eqb action restart) (eqb action already) (eqb action close)
+    decided-puts e seconds =
+        go (eqb action admit) (eqb action restart) (eqb action already) (eqb action close) (eqb action report)
       where
         action : ℕ
         action = ownAction s x e
@@ -139,11 +140,13 @@ module _ (s : State) (x : Arrived) where
         new : Session
         new = newSession x
 
-        go : (a b c d : Bool)
-            → Puts (cond a (admitted (roomFor (x .flow) s) seconds new)
-            (cond b (restarted seconds new (own s x)) (cond c (answered 5) (cond d (closed new (own s x)) (answered 0)))) .change)
-        go true b c d = admitted-puts seconds
-        go false true c d = restarted-puts seconds new
-        go false false true d = tt
-        go false false false true = closed-puts new (own s x)
-        go false false false false = tt
+        go : (a b c d r : Bool)
+            → Puts (cond a (admitted (fullFor (x .flow) s) seconds new)
+            (cond b (restarted seconds new (own s x))
+            (cond c (answered 5) (cond d (closed new (own s x)) (cond r (answered 0) (answered 255))))) .change)
+        go true b c d r = admitted-puts seconds
+        go false true c d r = restarted-puts seconds new
+        go false false true d r = tt
+        go false false false true r = closed-puts new (own s x)
+        go false false false false true = tt
+        go false false false false false = tt

@@ -1,4 +1,4 @@
--- Parts of a frame: its source, the PDU behind its tag, and the number of the tag's octets, gathered octet by octet.
+-- The number of a tag's octets, gathered octet by octet.
 use mathlib.Core.Path.{_≡_, _∙_}
 use mathlib.Core.List.{List}
 use Prim.Native.Nat.{ℕ, _+_, _-_, _*_, _^_, _<_, _≤_}
@@ -11,16 +11,6 @@ use Rattle.octets.specs.Octets.{number}
 use Rattle.octets.proofs.Laws.{Octets, octets-drop, number-parts, number-1}
 use Rattle.octets.proofs.Round.{number-fits}
 use Rattle.codec.specs.FrameSet.{source, pduOf}
-
--- the part of a frame behind its tag and type is its PDU
-pub pdu-part : (tags : ℕ) (frame : List ℕ) → take (length frame - (14 + tags)) (drop (14 + tags) frame) ≡ pduOf tags frame
-unfolding pduOf
-pdu-part tags frame =
-    take-all (length frame - (14 + tags)) (drop (14 + tags) frame) (omega (arith, length-drop (14 + tags) frame))
-
-pub source-fits : (frame : List ℕ) → Octets frame → source frame < 2 ^ 48
-unfolding source
-source-fits frame o = number-fits 6 (drop 6 frame) (octets-drop 6 frame o)
 
 -- before octet i, n is the number of those that were met
 pub record Gathering (l : List ℕ) (n i : ℕ) : Type 0 where

@@ -18,14 +18,14 @@ use Rattle.machine.specs.Table.{eventAt}
 use Rattle.machine.specs.Machine.{answered}
 use Rattle.state.specs.State.{State, isAllowed}
 use Rattle.state.specs.Image.{stateOf, okImage}
-use Rattle.state.specs.Rows.{flowOfRow}
 use Rattle.state.proofs.ImageLaws.{image-state}
 use Rattle.calls.specs.declared.Answer.{Answer}
 use Rattle.calls.specs.declared.Answer.the-variants.{Forwarded, Dropped}
 use Rattle.calls.specs.Answer.{leaves}
-use Rattle.calls.specs.Frame.{Arrived, pdu, ownKey, goesOn, changed, replied, machineServed, answers, requestServed}
-use Rattle.calls_requests.specs.declared.Coming.{Coming}
-use Rattle.calls_requests.specs.Arrival.{Came, Served, arrivedIn, askedOf, decision}
+use Rattle.calls.specs.Frame.{Arrived, pdu, ownKey, changed, replied, machineServed, answers, requestServed}
+use Rattle.calls_requests.specs.declared.Arrival.{Arrival}
+use Rattle.calls_requests.specs.Arrival.{Known, Served, arrivedIn, onward, askedOf, decision}
+use Rattle.calls_requests.proofs.Arrivals.{allowed-is, onward-is}
 use Rattle.calls_requests.proofs.Answered.{read-request, copied-read, copies-fit}
 
 -- an answer that leaves image and output as they were
@@ -56,58 +56,58 @@ answers-decision s x whom false kind seconds = go (eqb kind 1) (eqb kind 2) (eqb
     go false false true = refl
     go false false false = refl
 
-module _ (b : List ℕ) (a : Coming) (frame : List ℕ) (whom : Addressed) {r : Read}
-    (read : r ≡ readOf whom (destination frame) (pduOf (a .tags) frame)) where
-  pub reply-room : a .tags ≤ 4 → 14 + a .tags ≤ length frame → length frame ≤ 2000 → 35 + a .tags + r .copies ≤ 2008
+module _ (b : List ℕ) (a : Arrival) (frame : List ℕ) (whom : Addressed) {r : Read}
+    (read : r ≡ readOf whom (destination frame) (pduOf (a .taglen) frame)) where
+  pub reply-room : a .taglen ≤ 4 → 14 + a .taglen ≤ length frame → length frame ≤ 2000 → 35 + a .taglen + r .copies ≤ 2008
   unfolding pduOf
   reply-room few long fits =
-      copies-fit whom (destination frame) (pduOf (a .tags) frame) read (a .tags) few
-      (omega (arith, length-drop (14 + a .tags) frame))
+      copies-fit whom (destination frame) (pduOf (a .taglen) frame) read (a .taglen) few
+      (omega (arith, length-drop (14 + a .taglen) frame))
 
   pub answers-served : {d : Decided} {n : Answer} {left before later : List ℕ}
       → d ≡ decision (stateOf b) (arrivedIn b a frame) (r .request)
       → Served (replied (changed (ownKey (arrivedIn b a frame)) (d .change) (stateOf b)) (arrivedIn b a frame) whom (d .code)
-      (copied (r .copies) (pduOf (a .tags) frame)))
+      (copied (r .copies) (pduOf (a .taglen) frame)))
       n left before later
-      → Served (answers (stateOf b) (arrivedIn b a frame) whom (requestOf whom (destination frame) (pduOf (a .tags) frame)))
+      → Served (answers (stateOf b) (arrivedIn b a frame) whom (requestOf whom (destination frame) (pduOf (a .taglen) frame)))
       n left before later
   unfolding requestOf pdu arrivedIn
   answers-served ed h =
       let to : ℕ = destination frame in
-      let p : List ℕ = pduOf (a .tags) frame in
+      let p : List ℕ = pduOf (a .taglen) frame in
       rw (answers-decision (stateOf b) (arrivedIn b a frame) whom (malformed whom to p) (typeOf p)
       (getD (timers (tlvsOf p .tlvs)) 0 0))
       (rw (ed, read-request whom to p read, copied-read whom to p read) at h)
 
 -- ---- a request, on an allowed flow or not
 
-module _ {b : List ℕ} {a : Coming} {frame out : List ℕ} (came : Came b a frame out) (whom : Addressed) where
+module _ {b : List ℕ} {a : Arrival} {frame : List ℕ} (k : Known b a frame) (out : List ℕ) (whom : Addressed) where
   abbrev Requested : Answer → List ℕ → List ℕ → List ℕ → Type 0
   Requested = Served (requestServed (stateOf b) (arrivedIn b a frame) whom)
 
-  module _ (allowed : isAllowed (flowOfRow (a .row) b .number) (stateOf b) ≡ true) where
-    pub short-served : length frame < 26 + a .tags → Requested Dropped b out out
+  module _ (allowed : isAllowed (a .flow) (stateOf b) ≡ true) where
+    pub short-served : length frame < 26 + a .taglen → Requested Dropped b out out
     unfolding requestServed pdu pduOf arrivedIn
     short-served h =
-        let n : ℕ = length (pduOf (a .tags) frame) in
-        let few : n < 12 = omega (arith, came .tags-fit, length-drop (14 + a .tags) frame) in
-        rw (allowed, lt-ltb n 12 few) (stays Dropped out (came .ok))
+        let n : ℕ = length (pduOf (a .taglen) frame) in
+        let few : n < 12 = omega (arith, k .tag-whole, length-drop (14 + a .taglen) frame) in
+        rw (allowed-is k ∙ allowed, lt-ltb n 12 few) (stays Dropped out (k .ok))
 
-    pub long-served : 26 + a .tags ≤ length frame → {n : Answer} {left before later : List ℕ}
-        → Served (answers (stateOf b) (arrivedIn b a frame) whom (requestOf whom (destination frame) (pduOf (a .tags) frame)))
+    pub long-served : 26 + a .taglen ≤ length frame → {n : Answer} {left before later : List ℕ}
+        → Served (answers (stateOf b) (arrivedIn b a frame) whom (requestOf whom (destination frame) (pduOf (a .taglen) frame)))
         n left before later
         → Requested n left before later
     unfolding requestServed pdu pduOf arrivedIn
     long-served h g =
-        let n : ℕ = length (pduOf (a .tags) frame) in
-        let enough : 12 ≤ n = omega (arith, length-drop (14 + a .tags) frame) in
-        rw (allowed, le-ltb n 12 enough) g
+        let n : ℕ = length (pduOf (a .taglen) frame) in
+        let enough : 12 ≤ n = omega (arith, length-drop (14 + a .taglen) frame) in
+        rw (allowed-is k ∙ allowed, le-ltb n 12 enough) g
 
-  module _ (prohibited : isAllowed (flowOfRow (a .row) b .number) (stateOf b) ≡ false) where
-    pub forwarded-served : {on : Bool} → on ≡ goesOn (arrivedIn b a frame) whom → on ≡ true → Requested Forwarded b out out
+  module _ (prohibited : isAllowed (a .flow) (stateOf b) ≡ false) where
+    pub forwarded-served : {on : Bool} → on ≡ onward a whom → on ≡ true → Requested Forwarded b out out
     unfolding requestServed arrivedIn
-    forwarded-served e on = rw (prohibited, sym e ∙ on) (stays Forwarded out (came .ok))
+    forwarded-served e on = rw (allowed-is k ∙ prohibited, sym (onward-is k whom) ∙ sym e ∙ on) (stays Forwarded out (k .ok))
 
-    pub dropped-served : {on : Bool} → on ≡ goesOn (arrivedIn b a frame) whom → on ≡ false → Requested Dropped b out out
+    pub dropped-served : {on : Bool} → on ≡ onward a whom → on ≡ false → Requested Dropped b out out
     unfolding requestServed arrivedIn
-    dropped-served e on = rw (prohibited, sym e ∙ on) (stays Dropped out (came .ok))
+    dropped-served e on = rw (allowed-is k ∙ prohibited, sym (onward-is k whom) ∙ sym e ∙ on) (stays Dropped out (k .ok))

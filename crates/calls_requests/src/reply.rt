@@ -1,17 +1,15 @@
 // A reply to a request: the answer, and its octets at the front of the output.
-use crate::Coming;
-use crate::pdu::level_behind;
-use crate::pdu::type_behind;
+use crate::Arrival;
 use calls::Answer;
 use codec::Status;
 use codec_replies::ReplyFields;
 use codec_replies::put_reply_frame;
 ghost use mathlib.Core.Path.{_≡_};
 ghost use mathlib.Core.Bool.{cond};
-ghost use Prim.Native.Nat.{_+_, _≤_};
+ghost use Prim.Native.Nat.{_+_, _<_, _≤_};
 ghost use lib.ListN.{length};
-ghost use Rattle.codec.specs.FrameSet.{source, pduOf};
-ghost use Rattle.codec.specs.Request.{levelOf, typeOf, copied};
+ghost use Rattle.codec.specs.FrameSet.{pduOf};
+ghost use Rattle.codec.specs.Request.{copied};
 ghost use Rattle.codec_replies.specs.Reply.{replyFrame, replyPdu, tagOf};
 ghost use Rattle.state.specs.State.{State};
 ghost use Rattle.state.specs.Image.{image};
@@ -32,31 +30,32 @@ fn answer_of(on: bool, n: u32) -> Answer
 // The reply with this code and status that copies so many octets, for any state that the call leaves.
 pub fn reply(
     out: &mut [u8],
-    a: Coming,
+    a: Arrival,
     frame: &[u8],
     on: bool,
     code: u8,
     status: Status,
     copies: usize,
 ) -> Answer
-    requires { ⌜ (a .tags ≤ 4) × (14 + a .tags ≤ length (now frame)) ⌝ }
-    requires { ⌜ (2008 ≤ length (now out)) × ((35 + a .tags + copies ≤ 2008)
-        × (copies ≡ length (copied copies (pduOf (a .tags) (now frame))))) ⌝ }
+    requires { ⌜ (a .taglen ≤ 4) × ((14 + a .taglen ≤ length (now frame)) × (a .heading .level < 8)) ⌝ }
+    requires { ⌜ (2008 ≤ length (now out)) × ((35 + a .taglen + copies ≤ 2008)
+        × (copies ≡ length (copied copies (pduOf (a .taglen) (now frame))))) ⌝ }
     ensures { λ r. ⌜ ((s : State) → Served
         (sends (cond on RepliedForwarded Replied) s
-        (replyFrame (source (now (frame .entry))) (a .port .address) (tagOf (a .tags) (now (frame .entry)))
-        (replyPdu (levelOf (pduOf (a .tags) (now (frame .entry)))) (typeOf (pduOf (a .tags) (now (frame .entry)))) code
-        (a .port .address) status (copied copies (pduOf (a .tags) (now (frame .entry)))))))
+        (replyFrame (a .heading .source) (a .replier) (tagOf (a .taglen) (now (frame .entry)))
+        (replyPdu (a .heading .level) (a .heading .kind) code (a .port .address) status
+        (copied copies (pduOf (a .taglen) (now (frame .entry)))))))
         r (image s) (now (out .entry)) (now (out .exit))) ⌝ }
 {
+    let h = a.heading;
     let port = a.port;
     let fields = ReplyFields {
-        level: level_behind(a.tags, frame),
-        kind: type_behind(a.tags, frame),
+        level: h.level,
+        kind: h.kind,
         code,
         port: port.address,
         status,
     };
-    let n = put_reply_frame(out, frame, a.tags, port.address, fields, copies);
+    let n = put_reply_frame(out, frame, a.taglen, h.source, a.replier, fields, copies);
     answer_of(on, n as u32)
 }

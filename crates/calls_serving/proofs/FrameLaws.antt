@@ -2,10 +2,10 @@
 use mathlib.Core.Path.{_≡_, sym, ap, _∙_}
 use mathlib.Core.Bool.{Bool, true, false, cond}
 use mathlib.Core.List.{List, [], _∷_}
-use Prim.Native.Nat.{ℕ, _+_, _-_, _≤_}
+use Prim.Native.Nat.{ℕ, _+_, _-_, _^_, _<_, _≤_}
+use lib.ListN.{length, length-drop}
 use native.Mathlib.Omega.{arith}
 use lib.Dec.{eqb}
-use lib.ListN.{length, take, drop}
 use borrow.Author.Tests.{le-leb, lt-leb}
 use Rattle.octets.specs.Lists.{within, every, first}
 use Rattle.octets.proofs.Same.{both-true}
@@ -16,53 +16,61 @@ use Rattle.codec.specs.declared.Place.{Place}
 use Rattle.codec.specs.declared.Place.the-variants.{NoSet, InSet}
 use Rattle.codec.specs.declared.Addressed.{Addressed}
 use Rattle.codec.specs.declared.Addressed.the-variants.{Elsewhere}
-use Rattle.codec.specs.FrameSet.{placeOf, destination}
-use Rattle.codec.specs.Request.{isRequest, addressed, levelOf}
+use Rattle.codec.specs.FrameSet.{only, setsOf, setsIn, source, pduOf}
+use Rattle.codec.specs.Request.{isRequest, addressed, headingOf}
+use Rattle.codec.specs.declared.Heading.{Heading}
 use Rattle.codec.proofs.Places.{tag-few, tag-whole}
 use Rattle.plan.specs.declared.Port.{Port}
 use Rattle.plan.specs.declared.Flow.{Flow}
-use Rattle.plan.specs.Plan.{noFlow, portNumbered, flowKey, setKey, flowOfSet, inPlan, mpAt, faces}
+use Rattle.plan.specs.Plan.{noFlow, portNumbered, flowNumbered, flowKey, setKey, flowOfSet, inPlan, mpAt, faces}
 use Rattle.state.specs.Image.{stateOf}
 use Rattle.state.specs.Rows.{flowAt, flowOfRow}
 use Rattle.state.proofs.Answers.{flow-found}
-use Rattle.state.proofs.Inside.{flow-fits}
+use Rattle.state.proofs.ImageLaws.{ok-valid}
+use Rattle.state.proofs.Rules.{valid-parts}
 use Rattle.state.proofs.PlaceLaws.{ok-numbers}
 use Rattle.calls.specs.declared.Answer.{Answer}
 use Rattle.calls.specs.declared.Answer.the-variants.{Forwarded}
-use Rattle.calls.specs.Frame.{pdu, mpOf, forMp, byWhom, inFlow, inPlace, frameServed}
-use Rattle.calls_requests.specs.declared.Coming.{Coming}
-use Rattle.calls_requests.specs.Arrival.{Came, Served, arrivedIn}
-use Rattle.calls_requests.proofs.Parts.{pdu-part}
+use Rattle.calls.specs.Frame.{arrivedAt, pdu, mpOf, forMp, byWhom, inFlow, inSets, frameServed}
+use Rattle.calls.proofs.PlaceSets.{InPlace, in-place}
+use Rattle.calls.proofs.SetFlows.{of-set}
+use Rattle.calls_requests.specs.declared.Arrival.{Arrival}
+use Rattle.calls_requests.specs.Arrival.{Known, Served, arrivedIn}
+use Rattle.calls_requests.proofs.Arrivals.{destination-is}
 use Rattle.calls_requests.proofs.Ways.{stays}
 use Rattle.calls_serving.specs.Preconditions.{Fair}
 
 -- ---- whom a frame is for
 
-module _ (b : List ℕ) (a : Coming) (frame : List ℕ) {asks : Bool} (asked : asks ≡ isRequest (a .tags) frame) where
-  pub no-request : asks ≡ false → Elsewhere ≡ forMp (arrivedIn b a frame)
-  unfolding forMp arrivedIn
-  no-request e = simp (sym asked ∙ e)
+module _ {b : List ℕ} {a : Arrival} {frame : List ℕ} (k : Known b a frame) where
+  request-is : isRequest (a .taglen) frame ≡ a .heading .request
+  unfolding headingOf
+  request-is = rw (k .read-once)
 
-  module _ {level mp : ℕ} {facing : Bool} (is : asks ≡ true)
-      (leveled : level ≡ levelOf (take (length frame - (14 + a .tags)) (drop (14 + a .tags) frame)))
-      (met : mp ≡ mpAt level (flowOfRow (a .row) b))
-      (faced : facing ≡ faces mp (a .side)) where
+  pub no-request : a .heading .request ≡ false → Elsewhere ≡ forMp (arrivedIn b a frame)
+  unfolding forMp arrivedIn
+  no-request e = simp (request-is ∙ e)
+
+  module _ {facing : Bool} (is : a .heading .request ≡ true) (faced : facing ≡ faces (a .mp) (a .side)) where
     facing-mp : faces (mpOf (arrivedIn b a frame)) (a .side) ≡ facing
-    unfolding mpOf pdu arrivedIn
-    facing-mp = rw (faced, met, leveled, pdu-part)
+    facing-mp = rw (faced, ← k .mp-same)
 
     pub no-mp : facing ≡ false → Elsewhere ≡ forMp (arrivedIn b a frame)
     unfolding forMp arrivedIn
-    no-mp e = simp (sym asked ∙ is, facing-mp ∙ e)
+    no-mp e = simp (request-is ∙ is, facing-mp ∙ e)
 
-    pub at-mp : facing ≡ true → {to : ℕ} {whom : Addressed} → to ≡ destination frame
-        → whom ≡ addressed (a .port .address) to (take (length frame - (14 + a .tags)) (drop (14 + a .tags) frame))
+    pub at-mp : facing ≡ true → {whom : Addressed} → whom ≡ addressed (a .port .address) (a .heading .destination) (pduOf (a .taglen) frame)
         → whom ≡ forMp (arrivedIn b a frame)
     unfolding forMp pdu arrivedIn
-    at-mp e there said = simp (sym asked ∙ is, facing-mp ∙ e) (rw (← there, ← pdu-part) said)
+    at-mp e said = simp (request-is ∙ is, facing-mp ∙ e) (rw (← destination-is k) said)
+
+-- how long its PDU is
+pub pdu-long : (taglen : ℕ) (frame : List ℕ) → length frame - (14 + taglen) ≡ length (pduOf taglen frame)
+unfolding pduOf
+pdu-long taglen frame = sym (length-drop (14 + taglen) frame)
 
 -- it is served by whom it is for
-pub by-whom : (b : List ℕ) (a : Coming) (frame : List ℕ) {answer : Answer} {left before after : List ℕ} (whom : Addressed)
+pub by-whom : (b : List ℕ) (a : Arrival) (frame : List ℕ) {answer : Answer} {left before after : List ℕ} (whom : Addressed)
     → whom ≡ forMp (arrivedIn b a frame) → Served (byWhom (stateOf b) (arrivedIn b a frame) whom) answer left before after
     → Served (byWhom (stateOf b) (arrivedIn b a frame) (forMp (arrivedIn b a frame))) answer left before after
 by-whom b a frame whom told s = rw (← told) s
@@ -82,65 +90,107 @@ number-few sought (f ∷ fs) all =
     go true here there = here
     go false here there = there
 
-module _ (b : List ℕ) (port side : ℕ) (frame out : List ℕ) (k : Fair b side frame out)
-    {own : Port} {place : Place}
-    (known : own ≡ portNumbered port (stateOf b .plan))
-    (placed : place ≡ placeOf (own .kind) frame) where
-  in-place : frameServed (stateOf b) port side frame ≡ inPlace (stateOf b) own side frame place
+module _ (b : List ℕ) (own : Port) (side : ℕ) (frame out : List ℕ) (k : Fair b side frame out) (place : Place)
+    (placed : setsIn place ≡ setsOf (own .kind) frame) where
+  abbrev Serves : Answer → List ℕ → List ℕ → Type 0
+  Serves answer left after =
+      (n : ℕ) → own ≡ portNumbered n (stateOf b .plan) → Served (frameServed (stateOf b) n side frame) answer left out after
+
+  in-sets : (n : ℕ) → own ≡ portNumbered n (stateOf b .plan)
+      → frameServed (stateOf b) n side frame ≡ inSets (stateOf b) own side frame (setsIn place)
   unfolding frameServed
-  in-place = rw (placed, known)
+  in-sets n known = rw (placed, known)
 
-  pub no-set : place ≡ NoSet → Served (frameServed (stateOf b) port side frame) Forwarded b out out
-  unfolding inPlace
-  no-set e = rw (in-place, e) (stays Forwarded out (k .ok))
+  pub no-set : place ≡ NoSet → Serves Forwarded b out
+  unfolding inSets setsIn
+  no-set e n known = rw (in-sets n known, e) (stays Forwarded out (k .ok))
 
-  module _ {set : FrameSet} {tags row number : ℕ} (inside : place ≡ InSet set tags)
+  module _ {set : FrameSet} {taglen row number : ℕ} (inside : place ≡ InSet set taglen)
       (at : row ≡ flowAt (own .number) set b) (read : number ≡ flowOfRow row b .number) where
-    abbrev coming : Coming
-    coming = record { port = own; side = side; row = row; tags = tags }
+    pub there : setsOf (own .kind) frame ≡ only set taglen
+    unfolding setsIn
+    there = sym placed ∙ rw inside
 
     flow-of : flowOfRow row b ≡ flowOfSet (own .number) set (stateOf b .plan)
     flow-of = ap (λ (r : ℕ). flowOfRow r b) at ∙ flow-found b (own .number) set
 
-    in-flow : frameServed (stateOf b) port side frame ≡ inFlow (stateOf b) (arrivedIn b coming frame)
-    unfolding inPlace arrivedIn
-    in-flow = rw (in-place, inside, ← flow-of)
+    pub no-flow : number ≡ 0 → Serves Forwarded b out
+    unfolding inSets setsIn inFlow inPlan arrivedAt
+    no-flow e n known =
+        rw (in-sets n known, inside)
+        (simp (lt-leb 1 (flowOfSet (own .number) set (stateOf b .plan) .number) (omega (arith, read, e, ap (λ (f : Flow). f .number) flow-of)))
+        (stays Forwarded out (k .ok)))
 
-    pub no-flow : number ≡ 0 → Served (frameServed (stateOf b) port side frame) Forwarded b out out
-    unfolding inFlow inPlan arrivedIn
-    no-flow e = rw in-flow (simp (lt-leb 1 (flowOfRow row b .number) (omega (arith, read, e))) (stays Forwarded out (k .ok)))
+    module _ (some : number ≡ 0 → ⊥) {h : Heading} {mp : ℕ} (heading : h ≡ headingOf taglen frame) (mped : mp ≡ mpAt (h .level) (flowOfRow row b))
+      where
+        abbrev arrival : Arrival
+        arrival =
+            record {
+              arrival = own .number;
+              port = own;
+              replier = own .address;
+              looper = own .address;
+              side = side;
+              flow = number;
+              mp = mp;
+              taglen = taglen;
+              heading = h;
+            }
 
-    module _ (some : number ≡ 0 → ⊥) where
-      row-some : 1 ≤ row
-      unfolding flowOfRow noFlow
-      row-some = by-eq row 0 (λ e z. absurd (some (simp e at read))) (λ e z. omega arith)
+        number-is : number ≡ flowOfSet (own .number) set (stateOf b .plan) .number
+        number-is = read ∙ ap (λ (f : Flow). f .number) flow-of
 
-      number-fits : flowOfRow row b .number ≤ 32
-      unfolding flowOfSet
-      number-fits = rw flow-of
-          (number-few (λ f. eqb (flowKey f) (setKey (own .number) (set .kind) (set .vid))) (stateOf b .plan .flows)
-          (ok-numbers b (k .ok)))
+        in-plan : inPlan (flowOfSet (own .number) set (stateOf b .plan) .number) ≡ true
+        unfolding inPlan
+        in-plan = le-leb 1 (flowOfSet (own .number) set (stateOf b .plan) .number) (omega (arith, number-is, some))
 
-      pub came : Came b coming frame out
-      came =
-          let there : placeOf (own .kind) frame ≡ InSet set tags = sym placed ∙ inside in
-          record {
-            ok = k .ok;
-            quiet = k .quiet;
-            long = k .long;
-            row-some = row-some;
-            row-fits = omega (arith, flow-fits b (own .number) set at);
-            number-some = omega (arith, read, some);
-            number-fits = number-fits;
-            side-known = k .side-known;
-            tags-few = tag-few frame (own .kind) there (k .frame-some);
-            tags-fit = tag-whole frame (own .kind) there (k .frame-some);
-            frame-fits = k .frame-fits;
-            room = k .room;
-          }
+        of-number : flowNumbered number (stateOf b .plan) ≡ flowOfSet (own .number) set (stateOf b .plan)
+        of-number =
+            let p : InPlace frame set = in-place frame (own .kind) set taglen there in
+            rw number-is
+            (of-set (stateOf b .plan) (own .number) set (valid-parts (stateOf b) (ok-valid b (k .ok)) .plan-kept)
+            (p .kind-small) (p .vid-small) in-plan .numbered)
 
-      pub of-flow : {answer : Answer} {left after : List ℕ}
-          → Served (byWhom (stateOf b) (arrivedIn b coming frame) (forMp (arrivedIn b coming frame))) answer left out after
-          → Served (frameServed (stateOf b) port side frame) answer left out after
-      unfolding inFlow inPlan arrivedIn
-      of-flow s = rw in-flow (simp (le-leb 1 (flowOfRow row b .number) (came .number-some)) s)
+        arrived-is : arrivedIn b arrival frame ≡ arrivedAt (stateOf b .plan) own side frame set taglen
+        unfolding arrivedIn arrivedAt
+        arrived-is = rw of-number
+
+        number-fits : number ≤ 32
+        unfolding flowOfSet
+        number-fits = rw number-is
+            (number-few (λ f. eqb (flowKey f) (setKey (own .number) (set .kind) (set .vid))) (stateOf b .plan .flows)
+            (ok-numbers b (k .ok)))
+
+        mp-right : mp ≡ mpOf (arrivedIn b arrival frame)
+        unfolding mpOf pdu headingOf arrivedIn
+        mp-right = mped ∙ rw (heading, flow-of, of-number)
+
+        pub known : source frame < 2 ^ 48 → h .level < 8 → Known b arrival frame
+        unfolding headingOf
+        known small low =
+            record {
+              ok = k .ok;
+              quiet = k .quiet;
+              long = k .long;
+              flow-some = omega (arith, some);
+              flow-fits = number-fits;
+              flow-same = ap (λ (f : Flow). f .number) of-number ∙ sym number-is;
+              side-known = k .side-known;
+              tag-few = tag-few frame (own .kind) there (k .frame-some);
+              tag-whole = tag-whole frame (own .kind) there (k .frame-some);
+              read-once = heading;
+              source-fits = rw heading small;
+              level-fits = low;
+              mp-same = mp-right;
+              frame-fits = k .frame-fits;
+            }
+
+        in-flow : inPlan (arrivedAt (stateOf b .plan) own side frame set taglen .flow .number) ≡ true
+        unfolding arrivedAt
+        in-flow = in-plan
+
+        pub of-flow : {answer : Answer} {left after : List ℕ}
+            → Served (byWhom (stateOf b) (arrivedIn b arrival frame) (forMp (arrivedIn b arrival frame))) answer left out after
+            → Serves answer left after
+        unfolding inSets setsIn inFlow
+        of-flow s n known = rw (in-sets n known, inside, in-flow) (rw arrived-is at s)

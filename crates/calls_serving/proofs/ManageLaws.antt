@@ -7,17 +7,19 @@ use lib.ListN.{set}
 use Rattle.octets.specs.Octets.{lowOctets, splice}
 use Rattle.machine.specs.declared.Session.{Session}
 use Rattle.machine.specs.declared.Machine.the-variants.{Inactive}
-use Rattle.machine.specs.Table.{Event, mgmt-prohibit, actionOf, actionAt, eventAt, conditionNumber, conditionAt}
-use Rattle.machine.specs.Machine.{activity, conditionOf, allowedAfter, withdrawn}
-use Rattle.machine.specs.Time.{elapsed, ticked}
-use Rattle.state.specs.State.{State, withSessions, isAllowed}
+use Rattle.machine.specs.declared.Sweep.the-variants.{Ticked, Managed}
+use Rattle.machine.specs.Table.{Event, active, actionOf, actionAt, eventAt, conditionNumber, conditionAt}
+use Rattle.machine.specs.Machine.{activity, conditionOf}
+use Rattle.machine.specs.Management.{managedBy, allowedAfter}
+use Rattle.machine.specs.Time.{elapsed, ticked, swept}
+use Rattle.state.specs.State.{State, withSessions, isAllowed, withAllowed, withClock}
 use Rattle.state.specs.Image.{bit, image, stateOf, okImage}
 use Rattle.state.proofs.Rules.{valid-parts}
 use Rattle.state.proofs.ImageLaws.{ok-valid, image-state}
 use Rattle.state_store.specs.StoredRows.{sessionsMapped, sessionsCleared}
-use Rattle.state_store.proofs.Images.{Laid, laid, ticked-image, withdrawn-image, cleared-image}
-use Rattle.state_store.proofs.Images.{withClock, withAllowed, clock-image, allowed-image}
-use Rattle.calls.specs.Calls.{tickedTo, managed, prohibitedBy, restartedAt}
+use Rattle.state_store.proofs.Images.{Laid, laid, mapped-image, cleared-image}
+use Rattle.state_store.proofs.Images.{clock-image, allowed-image}
+use Rattle.calls.specs.Calls.{tickedTo, managed, restartedAt}
 
 -- the table's entry for a flow without a session, at the row that the flow has
 pub flow-action : (now : Bool) (event : ℕ)
@@ -51,30 +53,25 @@ module _ (b : List ℕ) (ok : okImage b ≡ true) where
       ey ∙ rw ex (allowed-image (withSessions xs s) n a (valid-parts s (ok-valid b ok) .allowed-length) low high)
 
   pub ticked-there : (clock : ℕ) {last passed : ℕ} {x y : List ℕ} → last ≡ s .clock → passed ≡ elapsed clock last
-      → x ≡ sessionsMapped (ticked passed) b → y ≡ splice 0 (lowOctets 4 clock) x → y ≡ image (tickedTo clock s)
-  unfolding tickedTo withSessions
+      → x ≡ sessionsMapped (swept (Ticked passed)) b → y ≡ splice 0 (lowOctets 4 clock) x → y ≡ image (tickedTo clock s)
+  unfolding tickedTo withSessions withClock swept
   ticked-there clock {last} {passed} el ep ex ey =
       let e : passed ≡ elapsed clock (s .clock) = rw el at ep in
       let at : sessionsMapped (ticked passed) b ≡ image (withSessions (map (ticked (elapsed clock (s .clock))) (s .sessions)) s)
-      = rw (← e) (ap (sessionsMapped (ticked passed)) (sym same) ∙ ticked-image s lay passed) in
+      = rw (← e) (ap (sessionsMapped (ticked passed)) (sym same) ∙ mapped-image s lay (ticked passed)) in
       clocked (withSessions (map (ticked (elapsed clock (s .clock))) (s .sessions)) s) clock (ex ∙ at) ey
 
   pub restarted-there : (clock : ℕ) {x y : List ℕ} → x ≡ sessionsCleared b → y ≡ splice 0 (lowOctets 4 clock) x
       → y ≡ image (restartedAt clock s)
-  unfolding restartedAt withSessions
+  unfolding restartedAt withSessions withClock
   restarted-there clock ex ey =
       clocked (withSessions [] s) clock (ex ∙ ap sessionsCleared (sym same) ∙ cleared-image s lay) ey
 
-  module _ (flow : ℕ) (low : 1 ≤ flow) (high : flow ≤ 32) {on : Bool} where
-    pub allowed-there : (e : Event) {y : List ℕ} → on ≡ allowedBy e flow s → y ≡ set b (31 + flow) (bit on)
-        → y ≡ image (managed e flow s)
-    unfolding managed withSessions
-    allowed-there e eo ey = rw eo at (flagged (s .sessions) flow on low high (sym same) ey)
-
-    pub prohibited-there : {x y : List ℕ} → on ≡ allowedBy mgmt-prohibit flow s → x ≡ sessionsMapped (withdrawn flow) b
-        → y ≡ set x (31 + flow) (bit on) → y ≡ image (prohibitedBy flow s)
-    unfolding prohibitedBy managed withSessions
-    prohibited-there eo ex ey =
-        rw eo at
-        (flagged (map (withdrawn flow) (s .sessions)) flow on low high
-        (ex ∙ ap (sessionsMapped (withdrawn flow)) (sym same) ∙ withdrawn-image s lay flow) ey)
+  pub managed-there : (flow event : ℕ) {on : Bool} {act : ℕ} {x y : List ℕ} → 1 ≤ flow → flow ≤ 32
+      → on ≡ allowedBy (eventAt event) flow s → act ≡ actionAt 2 event → x ≡ sessionsMapped (swept (Managed act flow)) b
+      → y ≡ set x (31 + flow) (bit on) → y ≡ image (managed (eventAt event) flow s)
+  unfolding managed withSessions withAllowed swept actionAt conditionAt
+  managed-there flow event {on} {act} low high eo ea ex ey =
+      let f : Session → Session = managedBy act flow in
+      rw (eo, ea) at
+      (flagged (map f (s .sessions)) flow on low high (ex ∙ ap (sessionsMapped f) (sym same) ∙ mapped-image s lay f) ey)

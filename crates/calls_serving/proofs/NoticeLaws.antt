@@ -12,6 +12,7 @@ use Rattle.octets.specs.Octets.{octets, over}
 use Rattle.octets.specs.Lists.{within}
 use Rattle.octets.proofs.Laws.{octets-length}
 use Rattle.octets.proofs.Over.{then-over}
+use Rattle.codec.specs.FrameSet.{oam-type}
 use Rattle.codec_replies.specs.Reply.{activeFlags, flagsBy, flags, header, carriesTimer, timerPart, replyPdu, replyFrame}
 use Rattle.machine.specs.declared.Session.{Session}
 use Rattle.machine.specs.declared.Machine.the-variants.{Inactive}
@@ -54,7 +55,7 @@ tag-octets count tag few et ew =
 
 -- addresses, tag octets and type
 abbrev headOf : ℕ → ℕ → List ℕ → List ℕ
-headOf requester from tag = octets 6 requester ++ octets 6 from ++ tag ++ octets 2 0x8902
+headOf requester from tag = octets 6 requester ++ octets 6 from ++ tag ++ octets 2 oam-type
 
 head-length : (requester from : ℕ) (tag : List ℕ) → length (headOf requester from tag) ≡ 14 + length tag
 head-length requester from tag = simp (length-append, octets-length) (omega arith)
@@ -66,22 +67,22 @@ unfolding replyPdu timerPart carriesTimer flags flagsBy activeFlags header statu
 bare x address = refl
 
 module _ (port : Port) (x : Session) (o : List ℕ)
-    (pre : (x .level < 8) × ((x .count ≤ 4) × ((x .tag < 2 ^ 32) × (2008 ≤ length o))))
-    {w n : ℕ} {t y : List ℕ} (et : t ≡ octets 4 (x .tag)) (ew : w ≡ x .count)
+    (pre : (x .level < 8) × ((x .taglen ≤ 4) × ((x .tag < 2 ^ 32) × (2008 ≤ length o))))
+    {w n : ℕ} {t y : List ℕ} (et : t ≡ octets 4 (x .tag)) (ew : w ≡ x .taglen)
     (put : (n ≡ 14 + length (lastOf w t)) × (y ≡ over (headOf (x .source) (port .address) (lastOf w t)) o)) where
   abbrev tag : List ℕ
-  tag = octets (x .count) (x .tag)
+  tag = octets (x .taglen) (x .tag)
 
   abbrev head : List ℕ
   head = headOf (x .source) (port .address) tag
 
-  head-end : n ≡ 14 + x .count
-  head-end = put .0 ∙ rw (tag-octets (x .count) (x .tag) (pre .1 .0) et ew, octets-length)
+  head-end : n ≡ 14 + x .taglen
+  head-end = put .0 ∙ rw (tag-octets (x .taglen) (x .tag) (pre .1 .0) et ew, octets-length)
 
   headed : y ≡ over head o
-  headed = rw (tag-octets (x .count) (x .tag) (pre .1 .0) et ew) at (put .1)
+  headed = rw (tag-octets (x .taglen) (x .tag) (pre .1 .0) et ew) at (put .1)
 
-  long : length head ≡ 14 + x .count
+  long : length head ≡ 14 + x .taglen
   long = head-length (x .source) (port .address) tag ∙ rw octets-length
 
   pub notice-written : {k : ℕ} {z : List ℕ}
@@ -90,7 +91,7 @@ module _ (port : Port) (x : Session) (o : List ℕ)
   unfolding noticeFrame replyFrame
   notice-written (ek, ez) =
       let pdu : List ℕ = replyPdu (x .level) 2 (x .notice) (port .address) (statusOf Inactive) [] in
-      let some : length (head ++ pdu) ≡ 27 + x .count = notice-length port x in
+      let some : length (head ++ pdu) ≡ 27 + x .taglen = notice-length port x in
       let end : length head ≡ n = long ∙ sym head-end in (
         omega (arith, ek, some, head-end),
         then-over head pdu o n headed (rw (bare x (port .address)) at ez) end
@@ -108,9 +109,9 @@ module _ (l : List ℕ) (ok : okImage l ≡ true) where
   pub notice-taken : {x : Session} {p : Port} {n row : ℕ} {left out out′ : List ℕ} → x ≡ firstOwed (stateOf l)
       → p ≡ portOf (stateOf l) x
       → (n ≡ length (noticeFrame p x)) × (out′ ≡ over (noticeFrame p x) out)
-      → row ≡ sessionAt (x .flow * 2 ^ 48 + x .source) l → left ≡ rowRemoved row l
+      → row ≡ sessionAt (keyOf x) l → left ≡ rowRemoved row l
       → Served (noticeServed (stateOf l)) (Noticed (p .number) (x .side) n) left out out′
-  unfolding noticeServed noticed sends sessionRemoved keyOf key
+  unfolding noticeServed noticed sends sessionRemoved
   notice-taken {x} ex ep (en, eo) er el =
       let s : State = stateOf l in
       let gone : _ = rw (image-state l ok) at (removed-image s (laid s (ok-valid l ok)) (keyOf x)) in

@@ -5,29 +5,28 @@ use mathlib.Core.List.{List, [], _∷_}
 use Prim.Native.Nat.{ℕ, _/_, _^_, _<_, _≤_}
 use native.Mathlib.Omega.{arith}
 use lib.Dec.{eqb, ltb}
-use lib.ListN.{length, List·getD-eq-default}
-use borrow.Author.Tests.{eqb-true}
+use lib.ListN.{length, drop, List·getD-eq-default}
+use borrow.Author.Tests.{eq-eqb, eqb-true}
 use Rattle.octets.specs.Lists.{every, some, first}
 use Rattle.octets.proofs.Same.{both-true}
 use Rattle.octets.proofs.Cases.{by-lt}
 use Rattle.codec.specs.declared.FrameSet.{FrameSet}
 use Rattle.codec.specs.FrameSet.{untagged, c-tagged, c-tag, s-tag, group, setOf, vidOf, tagFits}
 use Rattle.machine.specs.declared.Session.{Session}
-use Rattle.machine.specs.Machine.{isOpen}
+use Rattle.machine.specs.Machine.{keyOf, isOpen}
 use Rattle.plan.specs.declared.Flow.{Flow}
 use Rattle.plan.specs.Plan.{flowNumbered, inPlan, mpAt, faces, goodFlow}
 use Rattle.plan.proofs.Kept.{rules}
 use Rattle.plan.proofs.Found.{flow-passes}
 use Rattle.state.specs.State.{State, isAllowed, goodTime, goodSession, valid, noticeDue, noSession, firstOwed}
-use Rattle.state.specs.Image.{stateOf}
+use Rattle.state.specs.Image.{sessionIn, stateOf}
+use Rattle.state.specs.Rows.{sessionAt, owedAt}
 use Rattle.state.proofs.Rules.{Valid, valid-parts}
 use Rattle.state.proofs.Fits.{good-flow, good-fits}
 use Rattle.state.proofs.ImageLaws.{ok-valid}
+use Rattle.state.proofs.Answers.{owed-found, notice-found}
+use Rattle.state.proofs.OwedRow.{by-test, owed-keyed}
 use Rattle.calls_serving.specs.Preconditions.{NoticeKnown}
-
-by-test : {A : Type 0} (t : Bool) → (t ≡ true → A) → (t ≡ false → A) → A
-by-test true p q = p refl
-by-test false p q = q refl
 
 first-good : {A : Type 0} (test good : A → Bool) (other : A) (xs : List A) → some test xs ≡ true → every good xs ≡ true
     → good (first test other xs) ≡ true
@@ -48,7 +47,7 @@ owed-good s v due =
 
 pub record NoticeFits (x : Session) : Type 0 where
   pub level-fits : x .level < 8
-  pub count-fits : x .count ≤ 4
+  pub count-fits : x .taglen ≤ 4
   pub tag-fits : x .tag < 2 ^ 32
   pub source-fits : x .source < 2 ^ 48
 
@@ -90,7 +89,7 @@ session-fits s x v h =
     let a : Bool = inPlan (f .number) in
     let b : Bool = ltb (x .source) (2 ^ 48) in
     let c : Bool = not (group (x .source)) in
-    let d : Bool = tagFits (setOf (f .kind) (f .vid)) (x .count) (x .tag) in
+    let d : Bool = tagFits (setOf (f .kind) (f .vid)) (x .taglen) (x .tag) in
     let e : Bool = faces (mpAt (x .level) f) (x .side) in
     let t5 : _ = both-true (a && b && c && d && e) (goodTime (isAllowed (x .flow) s) x) h in
     let t4 : _ = both-true (a && b && c && d) e (t5 .0) in
@@ -98,7 +97,7 @@ session-fits s x v h =
     let t1 : _ = both-true a b (both-true (a && b) c (t3 .0) .0) in
     let good : goodFlow (s .plan) f ≡ true
     = flow-passes (s .plan) (goodFlow (s .plan)) (x .flow) (rules (s .plan) (p .plan-kept) .flows-good) (t1 .0) in
-    let tag : _ = tag-fits (setOf (f .kind) (f .vid)) (x .count) (x .tag) (t3 .1) in
+    let tag : _ = tag-fits (setOf (f .kind) (f .vid)) (x .taglen) (x .tag) (t3 .1) in
     record {
       level-fits = level-fits (x .level) (x .side) f (good-flow (s .plan) f good .fits .mps-fit) (t4 .1);
       count-fits = tag .0;
@@ -110,3 +109,18 @@ pub owed-fits : {l out : List ℕ} → NoticeKnown l out → {x : Session} → x
 owed-fits {l} k e =
     let v : valid (stateOf l) ≡ true = ok-valid l (k .ok) in
     rw e (session-fits (stateOf l) (firstOwed (stateOf l)) v (owed-good (stateOf l) v (k .due)))
+
+-- ---- its row
+
+module _ {l out : List ℕ} (k : NoticeKnown l out) {row : ℕ} (e : row ≡ owedAt l) where
+  there : row ≡ 0 → ⊥
+  there z =
+      let due : not (eqb row 0) ≡ true = notice-found l e ∙ k .due in
+      true≢false (sym due ∙ rw (eq-eqb row 0 z))
+
+  module _ {x : Session} (read : x ≡ sessionIn (drop row l)) where
+    pub owed-is : x ≡ firstOwed (stateOf l)
+    owed-is = read ∙ owed-found l e .something there
+
+    pub owed-at : row ≡ sessionAt (keyOf x) l
+    owed-at = e ∙ owed-keyed l (ok-valid l (k .ok)) (k .due) ∙ ap (λ (y : Session). sessionAt (keyOf y) l) (sym owed-is)

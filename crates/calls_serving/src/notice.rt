@@ -5,10 +5,10 @@ use codec_replies::put_head;
 use machine::Session;
 use octets::octets4;
 use plan::Port;
-use state::first_owed;
 use state::numbered_at;
+use state::owed_at;
 use state::port_numbered;
-use state::session_at;
+use state::read_session;
 use state::wide;
 use state_store::remove_session;
 ghost use mathlib.Core.Path.{_≡_};
@@ -43,11 +43,11 @@ fn port_of(b: &[u8], x: Session) -> Port
 
 // A session's notice at the front of out; answers how many octets that is.
 fn put_notice(out: &mut [u8], port: Port, x: Session) -> usize
-    requires { ⌜ (x .level < 8) × ((x .count ≤ 4) × ((x .tag < 2 ^ 32) × (2008 ≤ length (now out)))) ⌝ }
+    requires { ⌜ (x .level < 8) × ((x .taglen ≤ 4) × ((x .tag < 2 ^ 32) × (2008 ≤ length (now out)))) ⌝ }
     ensures { λ r. ⌜ (r ≡ length (noticeFrame port x)) × (now (out .exit) ≡ over (noticeFrame port x) (now (out .entry))) ⌝ }
 {
     let tag = octets4(x.tag as u32);
-    let start = 4 - wide(x.count);
+    let start = 4 - wide(x.taglen);
     let n = put_head(&mut out[..], x.source, port.address, &tag[start..]);
     n + put_bare(&mut out[n..], x.level, 0, 2, x.notice, port.address)
 }
@@ -56,10 +56,10 @@ pub fn take_notice(b: &mut [u8], out: &mut [u8]) -> Answer
     requires { ⌜ NoticeKnown (now b) (now out) ⌝ }
     ensures { λ r. ⌜ Served (noticeServed (stateOf (now (b .entry)))) r (now (b .exit)) (now (out .entry)) (now (out .exit)) ⌝ }
 {
-    let x = first_owed(b);
+    let row = owed_at(b);
+    let x = read_session(b, row);
     let port = port_of(b, x);
     let n = put_notice(out, port, x);
-    let row = session_at(b, x.flow as u64 * 281474976710656 + x.source);
     remove_session(b, row);
     Answer::Noticed(port.number, x.side, n as u32)
 }

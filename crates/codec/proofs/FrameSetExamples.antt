@@ -7,10 +7,8 @@ use Prim.Native.String.{String}
 use Rattle.octets.specs.Octets.{number}
 use Rattle.octets.specs.Lists.{within}
 use Rattle.octets.specs.Text.{hex, hexed, text, digit}
-use Rattle.codec.specs.declared.Place.{Place}
-use Rattle.codec.specs.declared.Place.the-variants.{NoSet, InSet}
 use Rattle.codec.specs.FrameSet.{uni, enni, untagged, c-tagged, s-tagged, external, cen}
-use Rattle.codec.specs.FrameSet.{source, group, typeBehind, vidOf, setOf, tagged, byTag, tagFits, placeOf, soam, pduOf}
+use Rattle.codec.specs.FrameSet.{source, group, typeBehind, vidOf, setOf, tagged, byTag, tagFits, Member, member, only, setsOf, soam, pduOf}
 use Rattle.codec.specs.Request.{octet, opcodeOf, isRequest}
 
 numbers-of-port-kinds : uni ∷ enni ∷ [] ≡ 1 ∷ 2 ∷ []
@@ -27,63 +25,63 @@ frame : String → List ℕ
 unfolding hex hexed text digit
 frame rest = hex "02 00 00 00 00 01 02 00 00 00 00 AA" ++ hex rest
 
-abbrev u : Place
-u = InSet (record { kind = untagged; vid = 0 }) 0
+abbrev u : List Member
+u = only (record { kind = untagged; vid = 0 }) 0
 
-abbrev c : ℕ → Place
-c vid = InSet (record { kind = c-tagged; vid = vid }) 4
+abbrev c : ℕ → List Member
+c vid = only (record { kind = c-tagged; vid = vid }) 4
 
-abbrev s : ℕ → Place
-s vid = InSet (record { kind = s-tagged; vid = vid }) 4
+abbrev s : ℕ → List Member
+s vid = only (record { kind = s-tagged; vid = vid }) 4
 
-placed : ℕ → List ℕ → Place
-unfolding placeOf byTag tagged setOf vidOf typeBehind group source within number
-placed port received = placeOf port received
+sets : ℕ → List ℕ → List Member
+unfolding setsOf byTag tagged setOf vidOf typeBehind group source within number
+sets port received = setsOf port received
 
--- the octets behind the addresses, the frame's place at a UNI, and its place at an ENNI
-abbrev places : List (String × Place × Place)
-places =
+-- the octets behind the addresses, the frame's sets at a UNI, and its sets at an ENNI
+abbrev belongings : List (String × List Member × List Member)
+belongings =
     -- the port's own tag, and the wrong one
-    ("81 00 00 14 08 00 45", c 20, NoSet)
-    ∷ ("88 A8 00 14 08 00 45", NoSet, s 20)
+    ("81 00 00 14 08 00 45", c 20, [])
+    ∷ ("88 A8 00 14 08 00 45", [], s 20)
     -- any tag beneath it is disregarded
-    ∷ ("81 00 00 14 88 A8 00 1E 08 00", c 20, NoSet)
-    ∷ ("88 A8 00 14 81 00 00 1E 08 00", NoSet, s 20)
+    ∷ ("81 00 00 14 88 A8 00 1E 08 00", c 20, [])
+    ∷ ("88 A8 00 14 81 00 00 1E 08 00", [], s 20)
     -- neither tag type first
     ∷ ("08 00 45", u, u)
     ∷ ("91 00 00 14 08 00 45", u, u)
     ∷ ("91 00", u, u)
     -- 14 to 17 octets cut the tag short, 18 do not
-    ∷ ("81 00", NoSet, NoSet)
-    ∷ ("81 00 00", NoSet, NoSet)
-    ∷ ("81 00 00 14", NoSet, NoSet)
-    ∷ ("81 00 00 14 08", NoSet, NoSet)
-    ∷ ("81 00 00 14 08 00", c 20, NoSet)
-    ∷ ("88 A8 00 14 08", NoSet, NoSet)
-    ∷ ("88 A8 00 14 08 00", NoSet, s 20)
+    ∷ ("81 00", [], [])
+    ∷ ("81 00 00", [], [])
+    ∷ ("81 00 00 14", [], [])
+    ∷ ("81 00 00 14 08", [], [])
+    ∷ ("81 00 00 14 08 00", c 20, [])
+    ∷ ("88 A8 00 14 08", [], [])
+    ∷ ("88 A8 00 14 08 00", [], s 20)
     -- VID 0 and 4095, and those beside them
-    ∷ ("81 00 00 00 08 00", NoSet, NoSet)
-    ∷ ("81 00 00 01 08 00", c 1, NoSet)
-    ∷ ("81 00 0F FE 08 00", c 4094, NoSet)
-    ∷ ("81 00 0F FF 08 00", NoSet, NoSet)
-    ∷ ("88 A8 0F FE 08 00", NoSet, s 4094)
-    ∷ ("88 A8 0F FF 08 00", NoSet, NoSet)
+    ∷ ("81 00 00 00 08 00", [], [])
+    ∷ ("81 00 00 01 08 00", c 1, [])
+    ∷ ("81 00 0F FE 08 00", c 4094, [])
+    ∷ ("81 00 0F FF 08 00", [], [])
+    ∷ ("88 A8 0F FE 08 00", [], s 4094)
+    ∷ ("88 A8 0F FF 08 00", [], [])
     -- the upper four bits are not the VID's
-    ∷ ("81 00 F0 14 08 00", c 20, NoSet)
-    ∷ ("81 00 F0 00 08 00", NoSet, NoSet)
+    ∷ ("81 00 F0 14 08 00", c 20, [])
+    ∷ ("81 00 F0 00 08 00", [], [])
     ∷ []
 
-each-frame-has-its-place : map (λ row. (row .0, placed uni (frame (row .0)), placed enni (frame (row .0)))) places ≡ places
-unfolding placed frame
-each-frame-has-its-place = refl
+each-frame-has-its-sets : map (λ row. (row .0, sets uni (frame (row .0)), sets enni (frame (row .0)))) belongings ≡ belongings
+unfolding sets frame
+each-frame-has-its-sets = refl
 
--- the first octet of a source address, and the place of its C-tagged frame
-abbrev sources : List (ℕ × Place)
-sources = (0x00, c 20) ∷ (0x01, NoSet) ∷ (0x80, c 20) ∷ (0xFE, c 20) ∷ (0xFF, NoSet) ∷ []
+-- the first octet of a source address, and the sets of its C-tagged frame
+abbrev sources : List (ℕ × List Member)
+sources = (0x00, c 20) ∷ (0x01, []) ∷ (0x80, c 20) ∷ (0xFE, c 20) ∷ (0xFF, []) ∷ []
 
 group-source-has-no-set :
-    map (λ row. (row .0, placed uni (hex "02 00 00 00 00 01" ++ row .0 ∷ hex "00 00 00 00 01 81 00 00 14 08 00"))) sources ≡ sources
-unfolding placed hex hexed text digit
+    map (λ row. (row .0, sets uni (hex "02 00 00 00 00 01" ++ row .0 ∷ hex "00 00 00 00 01 81 00 00 14 08 00"))) sources ≡ sources
+unfolding sets hex hexed text digit
 group-source-has-no-set = refl
 
 -- the octets of tag, the octets behind the addresses, is the frame SOAM, and is it a request

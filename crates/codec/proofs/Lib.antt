@@ -7,3 +7,4 @@ pub mod Said
 pub mod LaterRead
 pub mod LaterLaws
 pub mod LaterEvery
+pub mod FrameParts

@@ -10,8 +10,9 @@ use Rattle.codec.specs.declared.Addressed.the-variants.{Elsewhere, Unica
 use Rattle.codec.specs.declared.Request.{Request}
 use Rattle.codec.specs.declared.Request.the-variants.{Malformed, Reserved, Activate, Deactivate, State}
 use Rattle.codec.specs.declared.Read.{Read}
+use Rattle.codec.specs.declared.Heading.{Heading}
 use Rattle.codec_tlvs.specs.Tlv.{Parsed, parse, timers, badList, unknown}
-use Rattle.codec.specs.FrameSet.{soam, pduOf}
+use Rattle.codec.specs.FrameSet.{destination, source, soam, pduOf}
 
 -- PDU octets, from 1
 unfoldable pub octet : ℕ → List ℕ → ℕ
@@ -40,9 +41,28 @@ portMacOf pdu = number 6 (drop 6 pdu)
 unfoldable pub tlvsOf : List ℕ → Parsed
 tlvsOf pdu = parse (drop (4 + offsetOf pdu) pdu)
 
+-- opcodes: a request (LLM), a reply (LLR)
+abbrev pub llm : ℕ
+llm = 57
+
+abbrev pub llr : ℕ
+llr = 56
+
 -- SOAM with opcode 57; a PDU of one octet or none has no opcode
 unfoldable pub isRequest : ℕ → List ℕ → Bool
-isRequest tags frame = soam tags frame && eqb (opcodeOf (pduOf tags frame)) 57
+isRequest taglen frame = soam taglen frame && eqb (opcodeOf (pduOf taglen frame)) llm
+
+-- what is read, once, of a frame that has so many octets of tag
+unfoldable pub headingOf : ℕ → List ℕ → Heading
+headingOf taglen frame =
+    record {
+      destination = destination frame;
+      source = source frame;
+      soam = soam taglen frame;
+      request = isRequest taglen frame;
+      level = levelOf (pduOf taglen frame);
+      kind = typeOf (pduOf taglen frame);
+    }
 
 -- 01-80-C2-00-00-38 plus the level
 unfoldable pub class2 : ℕ → ℕ

@@ -2,18 +2,31 @@
 mod frame;
 mod pdu;
 mod requests;
+mod words;
 
-pub use frame::destination_of;
 pub use frame::is_group;
-pub use frame::is_soam;
-pub use frame::place_of;
+pub use frame::set_of;
 pub use frame::source_of;
+pub use pdu::ACTIVATE;
+pub use pdu::DEACTIVATE;
+pub use pdu::LLR;
+pub use pdu::STATE;
 pub use pdu::addressed_to;
-pub use pdu::is_request;
-pub use pdu::level_of;
-pub use pdu::type_of;
+pub use pdu::heading_of;
 pub use requests::first_tlv;
 pub use requests::read_request;
+pub use words::C_TAG;
+pub use words::C_TAGGED;
+pub use words::CEN;
+pub use words::ENNI;
+pub use words::EXTERNAL;
+pub use words::OAM_TYPE;
+pub use words::S_TAG;
+pub use words::S_TAGGED;
+pub use words::TAG_LENGTH;
+pub use words::UNI;
+pub use words::UNTAGGED;
+pub use words::VIDS;
 
 // A frame set of a port. Its kind is 1 untagged, 2 C-tagged, 3 S-tagged; its VID is 0 where it is untagged.
 pub struct FrameSet {
@@ -25,6 +38,16 @@ pub struct FrameSet {
 pub enum Place {
     NoSet,
     InSet(FrameSet, usize),
+}
+
+// What is read of a frame once: its addresses, whether it is service OAM and a request, and the level and the message type of its PDU.
+pub struct Heading {
+    pub destination: u64,
+    pub source: u64,
+    pub soam: bool,
+    pub request: bool,
+    pub level: u8,
+    pub kind: u8,
 }
 
 // Whom the destination of a request means: nobody here, the port, or every MP of the request's level.

@@ -1,11 +1,30 @@
 // "Requests at an MP": the PDU's octets, whom a request is for, and what it says.
 ghost use mathlib.Core.Path.{_≡_};
-ghost use Prim.Native.Nat.{_+_, _<_, _≤_};
+ghost use mathlib.Core.Bool.{_&&_};
+ghost use mathlib.Core.List.{List};
+ghost use Prim.Native.Nat.{ℕ, _+_, _<_, _≤_};
+ghost use lib.Dec.{eqb};
 ghost use lib.ListN.{length, getD};
-ghost use Rattle.codec.specs.Request.{levelOf, typeOf, isRequest, class2, addressed, wrongMac, wrongOffset, byType};
+ghost use Rattle.codec.specs.FrameSet.{source};
+ghost use Rattle.codec.specs.Request.{llm, levelOf, opcodeOf, typeOf, headingOf, class2, addressed, wrongMac, wrongOffset, byType};
 use crate::Addressed;
+use crate::Heading;
 use crate::Request;
+use crate::frame::destination_of;
 use crate::frame::is_soam;
+
+// The opcode of a request.
+const LLM: u8 = 57;
+// That of a reply.
+pub const LLR: u8 = 56;
+// Its message types.
+pub const ACTIVATE: u8 = 1;
+
+pub const DEACTIVATE: u8 = 2;
+
+pub const STATE: u8 = 3;
+// How many octets a request's PDU has at the least.
+const LEAST_PDU: usize = 12;
 
 // The octet at a place from 0, or 0 past the end.
 pub fn octet_at(pdu: &[u8], i: usize) -> u8
@@ -18,29 +37,44 @@ pub fn octet_at(pdu: &[u8], i: usize) -> u8
 }
 
 // The level; 0 where there is no octet.
-pub fn level_of(pdu: &[u8]) -> u8
+fn level_of(pdu: &[u8]) -> u8
     ensures { λ r. ⌜ (r ≡ levelOf (now (pdu .entry))) × (r < 8) ⌝ }
 {
     octet_at(pdu, 0) / 32
 }
 
 // The message type; 0 where the PDU is shorter.
-pub fn type_of(pdu: &[u8]) -> u8
+fn type_of(pdu: &[u8]) -> u8
     ensures { λ r. ⌜ r ≡ typeOf (now (pdu .entry)) ⌝ }
 {
     octet_at(pdu, 4)
 }
 
-// Is the frame SOAM with opcode 57?
-pub fn is_request(tags: usize, frame: &[u8]) -> bool
-    requires { ⌜ 14 + tags ≤ length (now frame) ⌝ }
-    ensures { λ r. ⌜ r ≡ isRequest tags (now (frame .entry)) ⌝ }
+// Is it service OAM with the opcode of a request?
+fn is_request(soam: bool, pdu: &[u8]) -> bool
+    ensures { λ r. ⌜ r ≡ (soam && eqb (opcodeOf (now (pdu .entry))) llm) ⌝ }
 {
-    if is_soam(tags, frame) {
-        let from = 14 + tags;
-        return octet_at(&frame[from..], 1) == 57;
+    if soam {
+        return octet_at(pdu, 1) == LLM;
     }
     false
+}
+
+// What is read, once, of a frame that has so many octets of tag. Its source has been read.
+pub fn heading_of(taglen: usize, sender: u64, frame: &[u8]) -> Heading
+    requires { ⌜ (14 + taglen ≤ length (now frame)) × (sender ≡ source (now frame)) ⌝ }
+    ensures { λ r. ⌜ (r ≡ headingOf taglen (now (frame .entry))) × (r .level < 8) ⌝ }
+{
+    let pdu = 14 + taglen;
+    let soam = is_soam(taglen, frame);
+    Heading {
+        destination: destination_of(frame),
+        source: sender,
+        soam,
+        request: is_request(soam, &frame[pdu..]),
+        level: level_of(&frame[pdu..]),
+        kind: type_of(&frame[pdu..]),
+    }
 }
 
 // The group address of a level.
@@ -51,20 +85,22 @@ fn class2_of(level: u8) -> u64
     0x0180C2000038 + level as u64
 }
 
-// Whom a request to this destination is for, at a port of this address.
-pub fn addressed_to(port: u64, to: u64, pdu: &[u8]) -> Addressed
-    ensures { λ r. ⌜ r ≡ addressed port to (now (pdu .entry)) ⌝ }
+// Whom a request with this heading and so many octets of PDU is for, at a port of this address.
+pub fn addressed_to(port: u64, h: Heading, n: usize) -> Addressed
+    requires { ⌜ h .level < 8 ⌝ }
+    ensures { λ r. ⌜ ((pdu : List ℕ) → h .level ≡ levelOf pdu → h .kind ≡ typeOf pdu → n ≡ length pdu
+        → r ≡ addressed port (h .destination) pdu) ⌝ }
 {
-    if to == port {
+    if h.destination == port {
         return Addressed::Unicast;
     }
-    if to != class2_of(level_of(pdu)) {
+    if h.destination != class2_of(h.level) {
         return Addressed::Elsewhere;
     }
-    if type_of(pdu) != 3 {
+    if h.kind != STATE {
         return Addressed::Elsewhere;
     }
-    if pdu.len() < 12 {
+    if n < LEAST_PDU {
         return Addressed::Elsewhere;
     }
     Addressed::Multicast
@@ -98,9 +134,9 @@ pub fn by_type(kind: u8, seconds: u32) -> Request
     ensures { λ r. ⌜ r ≡ byType kind seconds ⌝ }
 {
     match kind {
-        1 => Request::Activate(seconds),
-        2 => Request::Deactivate,
-        3 => Request::State,
+        ACTIVATE => Request::Activate(seconds),
+        DEACTIVATE => Request::Deactivate,
+        STATE => Request::State,
         0 | 4..=255 => Request::Reserved,
     }
 }

@@ -4,14 +4,14 @@ ghost use mathlib.Core.Bool.{_&&_, not};
 ghost use Prim.Native.Nat.{_+_, _≤_};
 ghost use lib.Dec.{eqb};
 ghost use lib.ListN.{length};
-ghost use Rattle.codec.specs.Request.{offsetOf, readOf};
+ghost use Rattle.codec.specs.Request.{offsetOf, typeOf, readOf};
 ghost use Rattle.codec.specs.declared.Request.the-variants.{Malformed};
 use crate::Addressed;
 use crate::Read;
 use crate::Request;
+use crate::pdu::ACTIVATE;
 use crate::pdu::by_type;
 use crate::pdu::octet_at;
-use crate::pdu::type_of;
 use crate::pdu::wrong_mac;
 use crate::pdu::wrong_offset;
 use codec_tlvs::summary_of;
@@ -36,15 +36,15 @@ fn malformed() -> Read
 fn untimed(kind: u8, timed: bool) -> bool
     ensures { λ r. ⌜ r ≡ (eqb kind 1 && not timed) ⌝ }
 {
-    if kind == 1 {
+    if kind == ACTIVATE {
         return !timed;
     }
     false
 }
 
-// Reads a request that was sent to this destination.
-pub fn read_request(whom: Addressed, to: u64, pdu: &[u8]) -> Read
-    requires { ⌜ 12 ≤ length (now pdu) ⌝ }
+// Reads a request that was sent to this destination and has this message type.
+pub fn read_request(whom: Addressed, to: u64, kind: u8, pdu: &[u8]) -> Read
+    requires { ⌜ (12 ≤ length (now pdu)) × (kind ≡ typeOf (now pdu)) ⌝ }
     ensures { λ r. ⌜ r ≡ readOf whom to (now (pdu .entry)) ⌝ }
 {
     if wrong_mac(whom, to, pdu) {
@@ -57,7 +57,6 @@ pub fn read_request(whom: Addressed, to: u64, pdu: &[u8]) -> Read
     if s.bad {
         return malformed();
     }
-    let kind = type_of(pdu);
     if untimed(kind, s.timed) {
         return malformed();
     }

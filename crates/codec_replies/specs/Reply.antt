@@ -8,8 +8,8 @@ use Rattle.octets.specs.Octets.{octets}
 use Rattle.octets.specs.Lists.{within}
 use Rattle.codec.specs.declared.Status.{Status}
 use Rattle.codec_replies.specs.declared.ReplyFields.{ReplyFields}
-use Rattle.codec.specs.Request.{copied}
-use Rattle.codec.specs.FrameSet.{destination, external, group}
+use Rattle.codec.specs.Request.{llr, copied}
+use Rattle.codec.specs.FrameSet.{destination, external, group, oam-type}
 
 -- Flag bit 1: active after the call, for types 1 to 3 only. Bit 2: External, only with bit 1.
 unfoldable pub activeFlags : ℕ → Status → ℕ
@@ -24,7 +24,7 @@ flags kind status copies = flagsBy kind status (not (eqb (length copies) 0))
 
 -- MP level, version 0, opcode 56, flags, offset 8, the received type, the answer's code, port address
 unfoldable pub header : ℕ → ℕ → ℕ → ℕ → ℕ → List ℕ
-header level flagged kind code port = level * 32 ∷ 56 ∷ flagged ∷ 8 ∷ kind ∷ code ∷ octets 6 port
+header level flagged kind code port = level * 32 ∷ llr ∷ flagged ∷ 8 ∷ kind ∷ code ∷ octets 6 port
 
 -- type 37, length 5, subtype 1, four octets of seconds
 unfoldable pub timerTlv : ℕ → List ℕ
@@ -50,11 +50,11 @@ replyOf r count request = replyPdu (r .level) (r .kind) (r .code) (r .port) (r .
 -- Destination: the requester. Source: the port address, given apart from that in the PDU. Tag octets as received, then the SOAM
 -- type.
 unfoldable pub replyFrame : ℕ → ℕ → List ℕ → List ℕ → List ℕ
-replyFrame requester from tag pdu = octets 6 requester ++ octets 6 from ++ tag ++ octets 2 0x8902 ++ pdu
+replyFrame requester from tag pdu = octets 6 requester ++ octets 6 from ++ tag ++ octets 2 oam-type ++ pdu
 
 -- the received tag octets
 unfoldable pub tagOf : ℕ → List ℕ → List ℕ
-tagOf tags frame = take tags (drop 12 frame)
+tagOf taglen frame = take taglen (drop 12 frame)
 
 -- Looping swaps the addresses; for a group destination the new source is the port address. Other octets stay.
 unfoldable pub looped : ℕ → List ℕ → List ℕ

@@ -3,7 +3,7 @@ ghost use mathlib.Core.Path.{_≡_};
 ghost use Prim.Native.Nat.{_+_, _<_, _≤_};
 ghost use lib.ListN.{length};
 ghost use Rattle.octets.specs.Octets.{over};
-ghost use Rattle.codec.specs.FrameSet.{source, pduOf};
+ghost use Rattle.codec.specs.FrameSet.{pduOf};
 ghost use Rattle.codec.specs.Request.{copied};
 ghost use Rattle.codec_replies.specs.Reply.{timerPart, replyOf, replyFrame, tagOf};
 use crate::ReplyFields;
@@ -11,9 +11,13 @@ use crate::reply::flags_of;
 use crate::reply::put_head;
 use crate::reply::put_header;
 use crate::reply::put_timer;
+use codec::ACTIVATE;
+use codec::STATE;
 use codec::first_tlv;
-use codec::source_of;
 use codec_tlvs::copy_unknown;
+
+// The code of the reply to a malformed request.
+const MALFORMED: u8 = 1;
 
 // The timer TLV where it is carried, at the front of out; answers how many octets that is.
 fn put_timer_part(out: &mut [u8], kind: u8, code: u8, seconds: u32) -> usize
@@ -21,14 +25,14 @@ fn put_timer_part(out: &mut [u8], kind: u8, code: u8, seconds: u32) -> usize
     ensures { λ r. ⌜ (r ≡ length (timerPart kind code seconds))
         × ((r ≤ 8) × (now (out .exit) ≡ over (timerPart kind code seconds) (now (out .entry)))) ⌝ }
 {
-    if code == 1 {
+    if code == MALFORMED {
         return 0;
     }
-    if kind == 1 {
+    if kind == ACTIVATE {
         put_timer(out, seconds);
         return 8;
     }
-    if kind == 3 {
+    if kind == STATE {
         put_timer(out, seconds);
         return 8;
     }
@@ -47,7 +51,7 @@ fn put_copies(out: &mut [u8], count: usize, request: &[u8]) -> usize
     copy_unknown(out, request, first_tlv(request))
 }
 
-// A reply's PDU at the front of out, the rest of the output behind addresses and tags; answers how many octets that is.
+// A reply's PDU at the front of out, the rest of the output behind addresses and taglen; answers how many octets that is.
 fn put_reply(out: &mut [u8], r: ReplyFields, count: usize, request: &[u8]) -> usize
     requires { ⌜ (r .level < 8) × ((21 + count ≤ length (now out)) × (count ≡ length (copied count (now request)))) ⌝ }
     ensures { λ n. ⌜ (n ≡ length (replyOf r count (now (request .entry))))
@@ -62,24 +66,25 @@ fn put_reply(out: &mut [u8], r: ReplyFields, count: usize, request: &[u8]) -> us
     m + 1
 }
 
-// A whole reply frame to the sender of `frame`, whose set has so many octets of tag; answers its length.
+// A whole reply to `frame`, whose set has so many octets of tag, with these addresses; answers its length.
 pub fn put_reply_frame(
     out: &mut [u8],
     frame: &[u8],
-    tags: usize,
+    taglen: usize,
+    to: u64,
     from: u64,
     r: ReplyFields,
     count: usize,
 ) -> usize
-    requires { ⌜ (tags ≤ 8) × (14 + tags ≤ length (now frame)) ⌝ }
-    requires { ⌜ (r .level < 8) × ((35 + tags + count ≤ length (now out)) × (count ≡ length (copied count (pduOf tags (now frame))))) ⌝ }
-    ensures { λ n. ⌜ (n ≡ 14 + tags + length (replyOf r count (pduOf tags (now (frame .entry)))))
+    requires { ⌜ (taglen ≤ 8) × (14 + taglen ≤ length (now frame)) ⌝ }
+    requires { ⌜ (r .level < 8) × ((35 + taglen + count ≤ length (now out)) × (count ≡ length (copied count (pduOf taglen (now frame))))) ⌝ }
+    ensures { λ n. ⌜ (n ≡ 14 + taglen + length (replyOf r count (pduOf taglen (now (frame .entry)))))
         × (now (out .exit) ≡
-        over (replyFrame (source (now (frame .entry))) from (tagOf tags (now (frame .entry)))
-        (replyOf r count (pduOf tags (now (frame .entry))))) (now (out .entry))) ⌝ }
+        over (replyFrame to from (tagOf taglen (now (frame .entry)))
+        (replyOf r count (pduOf taglen (now (frame .entry))))) (now (out .entry))) ⌝ }
 {
-    let end = 12 + tags;
-    let n = put_head(&mut out[..], source_of(frame), from, &frame[12..end]);
-    let start = 14 + tags;
+    let end = 12 + taglen;
+    let n = put_head(&mut out[..], to, from, &frame[12..end]);
+    let start = 14 + taglen;
     n + put_reply(&mut out[n..], r, count, &frame[start..])
 }

@@ -4,10 +4,25 @@ ghost use mathlib.Core.List.{[], _∷_, _++_};
 ghost use Prim.Native.Nat.{_+_, _<_, _≤_};
 ghost use lib.ListN.{length};
 ghost use Rattle.octets.specs.Octets.{octets, over};
+ghost use Rattle.codec.specs.FrameSet.{destination};
 ghost use Rattle.codec_replies.specs.Reply.{activeFlags, flagsBy, header, timerTlv, looped};
+use codec::EXTERNAL;
+use codec::LLR;
+use codec::OAM_TYPE;
 use codec::Status;
-use codec::destination_of;
 use codec::is_group;
+use codec_tlvs::TIMER;
+use codec_tlvs::TIMER_LENGTH;
+use codec_tlvs::TIMER_SUBTYPE;
+
+// The offset of the first TLV in a reply.
+const OFFSET: u8 = 8;
+// Flags: bit 1 alone, bits 1 and 2, and bit 3.
+const ACTIVE: u8 = 1;
+
+const ACTIVE_EXTERNAL: u8 = 3;
+
+const COPIED: u8 = 4;
 
 // Three runs of octets, one after another, at the front of out; answers how many octets that is.
 fn put_three(out: &mut [u8], a: &[u8], b: &[u8], c: &[u8]) -> usize
@@ -36,17 +51,19 @@ pub fn put_head(out: &mut [u8], requester: u64, from: u64, tag: &[u8]) -> usize
         &octets::octets6(from),
         tag,
     );
-    octets::copy_into(&mut out[n..], &octets::octets2(0x8902));
+    octets::copy_into(&mut out[n..], &octets::octets2(OAM_TYPE));
     n + 2
 }
 
-// The frame turned round, straight into out; answers its length. A group destination gives way to the port's address.
-pub fn put_looped(out: &mut [u8], port: u64, frame: &[u8]) -> usize
+// The frame turned round, straight into out; answers its length. A group destination, which has been read, gives way to the port's
+// address.
+pub fn put_looped(out: &mut [u8], port: u64, to: u64, frame: &[u8]) -> usize
     requires { ⌜ (14 ≤ length (now frame)) × (length (now frame) ≤ length (now out)) ⌝ }
+    requires { ⌜ to ≡ destination (now frame) ⌝ }
     ensures { λ r. ⌜ (r ≡ length (now (frame .entry)))
         × (now (out .exit) ≡ over (looped port (now (frame .entry))) (now (out .entry))) ⌝ }
 {
-    if is_group(destination_of(frame)) {
+    if is_group(to) {
         return put_three(out, &frame[6..12], &octets::octets6(port), &frame[12..]);
     }
     put_three(out, &frame[6..12], &frame[0..6], &frame[12..])
@@ -63,10 +80,10 @@ fn active_flags(kind: u8, status: Status) -> u8
         return 0;
     }
     if status.active {
-        if status.side == 0 {
-            return 3;
+        if status.side == EXTERNAL {
+            return ACTIVE_EXTERNAL;
         }
-        return 1;
+        return ACTIVE;
     }
     0
 }
@@ -76,7 +93,7 @@ pub fn flags_of(kind: u8, status: Status, copied: bool) -> u8
     ensures { λ r. ⌜ r ≡ flagsBy kind status copied ⌝ }
 {
     if copied {
-        return active_flags(kind, status) + 4;
+        return active_flags(kind, status) + COPIED;
     }
     active_flags(kind, status)
 }
@@ -89,9 +106,9 @@ pub fn put_header(out: &mut [u8], level: u8, flagged: u8, kind: u8, code: u8, po
     let m = octets::octets6(port);
     let h = [
         level * 32,
-        56,
+        LLR,
         flagged,
-        8,
+        OFFSET,
         kind,
         code,
         m[0],
@@ -121,6 +138,15 @@ pub fn put_timer(out: &mut [u8], seconds: u32)
     ensures { λ _. ⌜ now (out .exit) ≡ over (timerTlv seconds) (now (out .entry)) ⌝ }
 {
     let s = octets::octets4(seconds);
-    let t = [37, 0, 5, 1, s[0], s[1], s[2], s[3]];
+    let t = [
+        TIMER,
+        0,
+        TIMER_LENGTH as u8,
+        TIMER_SUBTYPE,
+        s[0],
+        s[1],
+        s[2],
+        s[3],
+    ];
     octets::copy_into(out, &t);
 }

@@ -8,9 +8,9 @@ pub mod After
 pub mod Written
 pub mod AddedLaws
 mod Locals
-mod Calling
+mod CallRules
 mod Held
 mod Promised
-mod Asking
-mod Reading
+mod Questions
+mod ReaderRules
 mod Again

@@ -7,17 +7,19 @@ ghost use Rattle.codec_tlvs.specs.Tlv.{parse, isTimer, unknown};
 ghost use Rattle.codec_tlvs.specs.Walk.{tlvOf, kept};
 use crate::Step;
 use crate::readers::TlvReader;
+use crate::words::TIMER;
+use crate::words::TIMER_SUBTYPE;
 
 fn is_timer(kind: u8, value: &[u8]) -> bool
     ensures { λ r. ⌜ r ≡ isTimer (tlvOf kind (now (value .entry))) ⌝ }
 {
-    if kind != 37 {
+    if kind != TIMER {
         return false;
     }
     if value.len() == 0 {
         return false;
     }
-    if value[0] != 1 {
+    if value[0] != TIMER_SUBTYPE {
         return false;
     }
     true

@@ -3,10 +3,14 @@ mod copies;
 mod readers;
 mod steps;
 mod summaries;
+mod words;
 
 pub use copies::copy_unknown;
 pub use readers::TlvReader;
 pub use summaries::summary_of;
+pub use words::TIMER;
+pub use words::TIMER_LENGTH;
+pub use words::TIMER_SUBTYPE;
 
 // What stands at a place of the list: a TLV (its type, where its value starts, the value's length, and where the next one stands),
 // the End, or what makes the list bad.

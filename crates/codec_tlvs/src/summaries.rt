@@ -8,6 +8,9 @@ use crate::Step;
 use crate::Summary;
 use crate::Timer;
 use crate::readers::TlvReader;
+use crate::words::TIMER;
+use crate::words::TIMER_LENGTH;
+use crate::words::TIMER_SUBTYPE;
 
 fn timer_of(value: &[u8]) -> Timer
     ensures { λ r. ⌜ r ≡ timerOf (now (value .entry)) ⌝ }
@@ -15,10 +18,10 @@ fn timer_of(value: &[u8]) -> Timer
     if value.len() == 0 {
         return Timer::Broken;
     }
-    if value[0] != 1 {
+    if value[0] != TIMER_SUBTYPE {
         return Timer::Other;
     }
-    if value.len() != 5 {
+    if value.len() != TIMER_LENGTH {
         return Timer::Broken;
     }
     Timer::Seconds(octets::number4(value, 1))
@@ -70,7 +73,7 @@ fn counted(s: Summary, kind: u8, value: &[u8]) -> Summary
     if s.bad {
         return s;
     }
-    if kind != 37 {
+    if kind != TIMER {
         return with_unknown(s, value.len());
     }
     match timer_of(value) {

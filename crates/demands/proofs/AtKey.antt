@@ -14,8 +14,9 @@ use Rattle.state.proofs.Rules.{Valid, valid-parts}
 use Rattle.demands.specs.Machine.{Machine, nothing, prohibited}
 use Rattle.demands.specs.World.{World, atFlow, flowOf, sourceOf, at}
 use Rattle.demands.proofs.Shows.{resting, machineBy, machineIn, machineOn, machineAt, SmallSet, Shows}
-use Rattle.demands.proofs.Lists.{by-test, look-absent, look-told}
-use Rattle.demands.proofs.Passing.{passesAt}
+use Rattle.state.proofs.OwedRow.{by-test}
+use Rattle.demands.proofs.Lists.{look-absent, look-told}
+use Rattle.demands.proofs.Passers.{passesAt}
 use Rattle.demands.proofs.Flows.{flowSet, set-small, numbered-again, no-number, no-set}
 use Rattle.demands.proofs.Keys.{key-whole, no-session}
 use Rattle.demands.proofs.SessionsShown.{machine-looked}

@@ -15,7 +15,7 @@ use Rattle.state.proofs.Rules.{valid-parts}
 use Rattle.demands.specs.Machine.{Machine}
 use Rattle.demands.specs.World.{World, sameSet, become}
 use Rattle.demands.proofs.Shows.{machineIn, machineOn, machineAt, SmallSet, Shows}
-use Rattle.demands.proofs.Lists.{by-test}
+use Rattle.state.proofs.OwedRow.{by-test}
 use Rattle.demands.proofs.SetsApart.{same-told, sets-apart}
 use Rattle.demands.proofs.Keys.{key-flow, key-source}
 

@@ -6,18 +6,18 @@ use lib.Dec.{eqb}
 use borrow.Author.Tests.{not-false}
 use Rattle.plan.specs.Plan.{flowNumbered, inPlan}
 use Rattle.plan.specs.PlanText.{Reading, fault, planned, planIn}
-use Rattle.state.specs.State.{State, noticeDue, valid}
+use Rattle.state.specs.State.{State, noticeDue, valid, made}
 use Rattle.calls.specs.declared.Answer.the-variants.{Refused, Done, Faulty}
 use Rattle.calls.specs.Answer.{Sent, leaves}
 use Rattle.calls.specs.Calls.{Call, make, frame, tick, allow, prohibit, notice, restart}
-use Rattle.calls.specs.Calls.{noSuchPlace, badLength, shortOutput, noSuchFlow, refusal, made, makeServed, served}
+use Rattle.calls.specs.Calls.{noSuchPlace, badLength, shortOutput, noSuchFlow, refusal, makeServed, served}
 use Rattle.calls.proofs.CallValid.{FairCall, passed}
 use Rattle.demands.specs.World.{World, fresh, noticeDue as noticeShown}
 use Rattle.demands.specs.Frame.{leaves as tells}
 use Rattle.demands.specs.Calls.{noSuchPlace as noPlaceShown, noSuchFlow as noFlowShown, refusal as refusalShown}
 use Rattle.demands.specs.Calls.{makeServed as makeShown, served as servedShown, call as callShown}
 use Rattle.demands.proofs.Shows.{Shows, Alike, leaves-alike}
-use Rattle.demands.proofs.Limit.{room-same, due-same}
+use Rattle.demands.proofs.Limit.{full-same, due-same}
 use Rattle.demands.proofs.Notices.{notice-alike}
 use Rattle.demands.proofs.FrameAlike.{frame-alike}
 use Rattle.demands.proofs.TickShown.{tick-shown}
@@ -55,7 +55,7 @@ module _ (keys : ℕ) (big : 33 * 2 ^ 48 ≤ keys) (s : State) (w : World) (ok :
       let b : _ = passed (badLength octets) 1 _ (a .1) in
       let c : _ = passed (shortOutput out) 2 _ (b .1) in
       let d : _ = passed (noticeDue s) 3 0 (c .1) in
-      frame-alike keys s w ok shows (d .0) (room-same keys s w big ok shows) port side octets f (a .0) (b .0)
+      frame-alike keys s w ok shows (d .0) (full-same keys s w big ok shows) port side octets f (a .0) (b .0)
   served-alike (tick clock) f r =
       leaves-alike _ _ (tick-shown s w clock ok (passed (noticeDue s) 3 _ r .0) shows) Done
   served-alike (allow flow) f r =

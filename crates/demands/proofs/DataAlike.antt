@@ -55,7 +55,7 @@ module _ (s : State) (w : World) (k : Shows s w) where
       → Alike (dataServed s a) (dataServedIn w set a)
   unfolding dataServed dataServedIn ownAction
   data-alike set a f h settled =
-      let oam : Bool = soam (a .tags) (a .frame) in
+      let oam : Bool = soam (a .taglen) (a .frame) in
       let may : Bool = isAllowed (a .flow .number) s in
       let same : fate oam (levelOf (pdu a)) (a .side) (ownIn w set a)
       ≡ fateOf (actionOf (conditionOf may (own s a)) (dataEvent (a .side))) oam (levelOf (pdu a)) (a .side) (own s a)

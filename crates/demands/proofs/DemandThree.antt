@@ -1,7 +1,7 @@
 -- Demand 3: requests rewritten as a later protocol version would send them change nothing but the copies of unknown TLVs, their length
 -- and their flag.
 use mathlib.Core.Path.{_≡_, refl}
-use mathlib.Core.List.{List, [], _∷_}
+use mathlib.Core.List.{List, _∷_}
 use Prim.Native.Nat.{ℕ, _+_, _*_, _≤_, _^_}
 use lib.ListN.{length}
 use Rattle.codec.specs.declared.FrameSet.{FrameSet}
@@ -20,19 +20,19 @@ use Rattle.demands.proofs.DemandTwo.{demand-two}
 
 module _ (keys : ℕ) where
   -- one call
-  record CallsAgree (w : World) (tags : ℕ) (c d : Call) (became : Became) : Type 0 where
+  record CallsAgree (w : World) (taglen : ℕ) (c d : Call) (became : Became) : Type 0 where
     world-same : call keys w d .world ≡ call keys w c .world
     matches : Matches c became (seen c (call keys w c)) (seen d (call keys w d))
 
-  call-later : (w : World) (port side : ℕ) (set : FrameSet) (tags : ℕ) (f g out : List ℕ) → Asks w port side set tags f
-      → (r : Later f g) → length (r .head) ≡ 14 + tags
-      → CallsAgree w tags (frame port side f out) (frame port side g out) (rewritten tags (r .old .tlvs) (r .new .tlvs))
-  call-later w port side set tags f g out asks r len =
+  call-later : (w : World) (port side : ℕ) (set : FrameSet) (taglen : ℕ) (f g out : List ℕ) → Asks w port side set taglen f
+      → (r : Later f g) → length (r .head) ≡ 14 + taglen
+      → CallsAgree w taglen (frame port side f out) (frame port side g out) (rewritten taglen (r .old .tlvs) (r .new .tlvs))
+  call-later w port side set taglen f g out asks r len =
       rw (r .old-is, r .new-is)
       (let asked : _ = rw (r .old-is) at asks in
       let h : _
       = agree-call keys asked
-      (twins w port side tags set (r .head) len (r .old) (r .new) (r .old-laid) (r .new-laid) (r .rewritten) asked (rw (r .new-is) at (r .fits)))
+      (twins w port side taglen set (r .head) len (r .old) (r .new) (r .old-laid) (r .new-laid) (r .rewritten) asked (rw (r .new-is) at (r .fits)))
       out in
       record { world-same = h .world-same; matches = h .matches })
 
@@ -42,8 +42,8 @@ module _ (keys : ℕ) where
   unfolding worldRun
   runs-match run-ended = run-ended
   runs-match (run-same more) = next equal (runs-match more)
-  runs-match (run-later {w = w} {port = port} {side = side} {set = set} {tags = tags} {f = f} {g = g} {out = out} {cs = cs} {ds = ds} {fs = fs} asks r len more) =
-      let a : _ = call-later w port side set tags f g out asks r len in
+  runs-match (run-later {w = w} {port = port} {side = side} {set = set} {taglen = taglen} {f = f} {g = g} {out = out} {cs = cs} {ds = ds} {fs = fs} asks r len more) =
+      let a : _ = call-later w port side set taglen f g out asks r len in
       let rest : AllMatch cs fs (worldRun keys (call keys w (frame port side f out) .world) cs)
       (worldRun keys (call keys w (frame port side g out) .world) ds)
       = rw (a .world-same) (runs-match more) in
@@ -55,8 +55,8 @@ module _ (keys : ℕ) where
   unfolding worldAfter
   worlds-same run-ended = refl
   worlds-same (run-same more) = worlds-same more
-  worlds-same (run-later {w = w} {port = port} {side = side} {set = set} {tags = tags} {f = f} {g = g} {out = out} asks r len more) =
-      rw (call-later w port side set tags f g out asks r len .world-same) (worlds-same more)
+  worlds-same (run-later {w = w} {port = port} {side = side} {set = set} {taglen = taglen} {f = f} {g = g} {out = out} asks r len more) =
+      rw (call-later w port side set taglen f g out asks r len .world-same) (worlds-same more)
 
   -- and of the C entries, after a text that reads as a plan
   pub demand-three : 33 * 2 ^ 48 ≤ keys

@@ -8,12 +8,12 @@ use borrow.Author.Tests.{eq-eqb}
 use Rattle.plan.specs.Plan.{Plan}
 use Rattle.plan.specs.PlanText.{planned, planIn}
 use Rattle.plan.proofs.ReadKeeps.{read-keeps}
-use Rattle.state.specs.State.{State, valid}
+use Rattle.state.specs.State.{State, valid, made}
 use Rattle.state.specs.Image.{image, stateOf, okImage}
 use Rattle.state.proofs.ImageLaws.{ok-valid, state-image, image-ok}
 use Rattle.calls.specs.declared.Answer.the-variants.{Done}
 use Rattle.calls.specs.Answer.{leaves, numberOf}
-use Rattle.calls.specs.Calls.{Call, make, refusal, made, makeServed, served}
+use Rattle.calls.specs.Calls.{Call, make, refusal, makeServed, served}
 use Rattle.calls.specs.Calls.{lent, handed, call, makes, keepsImage, stored, enter}
 use Rattle.calls.proofs.CallValid.{FairCall, made-valid, call-valid}
 use Rattle.demands.specs.World.{World, fresh}

@@ -18,7 +18,7 @@ use Rattle.calls.specs.Calls.{Call, make, frame}
 use Rattle.demands.specs.World.{World, fresh}
 use Rattle.demands.specs.Calls.{refusal, call}
 use Rattle.demands.specs.Runs.{Seen, seen, worldAfter, EntriesRun, AllTyped}
-use Rattle.demands.specs.Data.{placeAt, inSet, IsData, facing, exempt, Turned, isLooped, saysLoop}
+use Rattle.demands.specs.Data.{setsAt, inSet, IsData, facing, exempt, Turned, isLooped, saysLoop}
 use Rattle.demands.proofs.NotTurned.{never-turned}
 use Rattle.demands.proofs.Turned.{turned-round, turned-only}
 use Rattle.demands.proofs.LastCall.{entries-last}
@@ -55,12 +55,12 @@ module _ (keys : ℕ) (big : 33 * 2 ^ 48 ≤ keys) {l text : List ℕ} {clock : 
       ap (λ (y : Seen). saysLoop (y .number)) (entries-last keys big long reads cs (frame port side f out) xs x typed run)
       ∙ number-says (call keys w (frame port side f out) .answer)
 
-  pub entries-turned : {set : FrameSet} {tags : ℕ} → refusal keys w (frame port side f out) ≡ 0 → IsData w port side set tags f
-      → exempt tags f (w .machine port set (source f)) ≡ false
+  pub entries-turned : {set : FrameSet} {taglen : ℕ} → refusal keys w (frame port side f out) ≡ 0 → IsData w port side set taglen f
+      → exempt taglen f (w .machine port set (source f)) ≡ false
       → saysLoop (x .number) ≡ facing side (w .machine port set (source f))
   entries-turned free d e = number-is ∙ turned-round keys w port side f out free d e
 
-  pub entries-never-turned : inSet w port (placeAt w port f) ≡ false → saysLoop (x .number) ≡ false
+  pub entries-never-turned : inSet w port (setsAt w port f) ≡ false → saysLoop (x .number) ≡ false
   entries-never-turned gone = number-is ∙ never-turned keys w port side f out gone
 
   pub entries-turned-only : saysLoop (x .number) ≡ true → (refusal keys w (frame port side f out) ≡ 0) × Turned w port side f

@@ -20,7 +20,7 @@ use Rattle.calls.specs.declared.Answer.the-variants.{Forwarded, Dropped}
 use Rattle.calls.specs.Frame.{Arrived, pdu, forMp, goesOn}
 use Rattle.calls.specs.Calls.{frame}
 use Rattle.demands.specs.Machine.{Machine, gets, activate, deactivate, isProhibited}
-use Rattle.demands.specs.World.{World, become, room}
+use Rattle.demands.specs.World.{World, become, fullFor}
 use Rattle.demands.specs.Frame.{leaves, sends, own, byFate, dataServed, replied, stepped, answers, requestServed}
 use Rattle.demands.specs.Frame.{byWhom, inFlow}
 use Rattle.demands.specs.Elapsed.{changes, asksChange}
@@ -34,7 +34,7 @@ pub record Steps (keys : ℕ) (w : World) (P : World → Type 0) (set : FrameSet
   pub asked : P (ownBecomes w set a (own w set a))
   pub activated : asksChange a (forMp a) ≡ true → (seconds : ℕ)
       → P (ownBecomes w set a
-      (activate (room keys w) seconds (levelOf (pdu a)) (a .side) (tagOf (a .tags) (a .frame)) (own w set a) .next))
+      (activate (fullFor keys (a .flow) w) seconds (levelOf (pdu a)) (a .side) (tagOf (a .taglen) (a .frame)) (own w set a) .next))
   pub deactivated : asksChange a (forMp a) ≡ true
       → P (ownBecomes w set a (deactivate (levelOf (pdu a)) (a .side) (own w set a) .next))
 

@@ -14,7 +14,8 @@ use Rattle.state.proofs.Rules.{Valid, valid-parts}
 use Rattle.state.specs.State.{State, isAllowed, goodSession, valid}
 use Rattle.state.proofs.Fits.{GoodSession, good-session}
 use Rattle.calls.proofs.Standing.{good-parts, open-time}
-use Rattle.demands.proofs.Lists.{by-test, none-such}
+use Rattle.state.proofs.OwedRow.{by-test}
+use Rattle.demands.proofs.Lists.{none-such}
 
 -- ---- the number and its parts
 

@@ -1,7 +1,7 @@
 mod Shows
 mod Lists
 mod Below
-mod Passing
+mod Passers
 mod Flows
 mod SetsApart
 mod Keys
@@ -37,7 +37,7 @@ mod Apart
 mod NotTurned
 mod Turned
 mod EntriesTurned
-mod Going
+mod TimeLeft
 mod Unexpired
 mod ShownUnexpired
 mod Spared

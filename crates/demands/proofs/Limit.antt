@@ -10,15 +10,16 @@ use Rattle.machine.specs.declared.Session.{Session}
 use Rattle.machine.specs.Machine.{isOpen, key, keyOf}
 use Rattle.plan.specs.declared.Flow.{Flow}
 use Rattle.plan.specs.Plan.{inPlan}
-use Rattle.state.specs.State.{State, valid, roomFor, noticeDue as due, noSession, firstOwed}
+use Rattle.state.specs.State.{State, valid, fullFor as full, noticeDue as due, noSession, firstOwed}
 use Rattle.state.proofs.Rules.{valid-parts}
 use Rattle.calls.proofs.SetFlows.{found-passes}
 use Rattle.demands.specs.Machine.{Owed, nothing, isActive, owedBy, isNotice, owes}
-use Rattle.demands.specs.World.{World, at, counted, least, room, firstOwing, noticeDue}
+use Rattle.demands.specs.World.{World, at, counted, least, fullFor, firstOwing, noticeDue}
 use Rattle.demands.proofs.Shows.{resting, machineBy, Shows}
 use Rattle.demands.proofs.Below.{counted-same, least-none, least-one}
-use Rattle.demands.proofs.Lists.{by-test, first-above, look-first}
-use Rattle.demands.proofs.Passing.{passesAt, none-passes, before-first, counted-count}
+use Rattle.state.proofs.OwedRow.{by-test, first-above}
+use Rattle.demands.proofs.Lists.{look-first}
+use Rattle.demands.proofs.Passers.{passesAt, none-passes, before-first, counted-count}
 use Rattle.demands.proofs.Keys.{keys-below}
 use Rattle.demands.proofs.AtKey.{at-passes}
 
@@ -68,9 +69,9 @@ module _ (s : State) (ok : valid s ≡ true) (some-due : due s ≡ true) where
 -- ---- the three
 
 module _ (keys : ℕ) (s : State) (w : World) (big : 33 * 2 ^ 48 ≤ keys) (ok : valid s ≡ true) (shows : Shows s w) where
-  pub room-same : (f : Flow) → room keys w ≡ roomFor f s
-  unfolding room roomFor
-  room-same f =
+  pub full-same : (f : Flow) → fullFor keys f w ≡ full f s
+  unfolding fullFor full
+  full-same f =
       let active : (k : ℕ) → isActive (at k w) ≡ passesAt keyOf isOpen k (s .sessions)
       = at-passes s ok w shows isActive isOpen (λ a. resting-active a nothing) session-active in
       let all : counted (λ k. isActive (at k w)) keys ≡ count isOpen (s .sessions)

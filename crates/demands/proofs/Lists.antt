@@ -11,10 +11,7 @@ use Rattle.octets.proofs.Same.{both-true}
 use Rattle.octets.proofs.Cases.{by-eq, by-lt}
 use Rattle.octets.proofs.Ordered.{none-below, next-key}
 use Rattle.octets.proofs.ListLaws.{neither, some-map}
-
-pub by-test : {A : Type 0} (t : Bool) → (t ≡ true → A) → (t ≡ false → A) → A
-by-test true p q = p refl
-by-test false p q = q refl
+use Rattle.state.proofs.OwedRow.{by-test, first-above}
 
 module _ {A : Type 0} where
   -- where no good one passes a test, and each is good, none passes
@@ -33,19 +30,6 @@ module _ {A : Type 0} where
   ascends-distinct key last (x ∷ l) a =
       let p : _ = next-key key last x l a in
       rw (some-map key (key x) l, none-below key (key x) (key x) l (p .1) (omega arith)) (ascends-distinct key (key x) l (p .1))
-
-  -- the first that passes has a key above all before the list
-  pub first-above : (key : A → ℕ) (test : A → Bool) (other : A) (last : ℕ) (l : List A) → ascends key last l ≡ true
-      → some test l ≡ true → last < key (first test other l)
-  unfolding some first
-  first-above key test other last [] a h = absurd (false≢true h)
-  first-above key test other last (x ∷ l) a h =
-      let p : _ = next-key key last x l a in
-      by-test (test x)
-      (λ t. rw t (p .0))
-      (λ t.
-      let r : key x < key (first test other l) = first-above key test other (key x) l (p .1) (rw t at h) in
-      rw t (omega (arith, p .0)))
 
 -- ---- what is looked up by a key
 

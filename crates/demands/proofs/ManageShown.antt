@@ -5,13 +5,14 @@ use mathlib.Core.List.{map, map-id}
 use Prim.Native.Nat.{ℕ, _<_, _^_}
 use borrow.Author.Tests.{eq-eqb, ne-eqb}
 use Rattle.machine.specs.declared.Session.{Session}
-use Rattle.machine.specs.Machine.{key, isOpen, owed, closedBy, withdrawn}
-use Rattle.machine.specs.Table.{mgmt-allow, actionOf}
+use Rattle.machine.specs.Table.{mgmt-allow, mgmt-prohibit, actionOf}
+use Rattle.machine.specs.Machine.{key, isOpen, owed}
+use Rattle.machine.specs.Management.{closedBy, managedBy}
 use Rattle.plan.specs.Plan.{flowNumbered, inPlan}
 use Rattle.state.specs.State.{State, isAllowed, noticeDue, valid}
-use Rattle.calls.specs.Calls.{managed, prohibitedBy}
+use Rattle.calls.specs.Calls.{managed}
 use Rattle.calls.proofs.Flags.{flagged}
-use Rattle.calls.proofs.ManageValid.{allow-flagged, prohibit-flagged, withdrawn-key}
+use Rattle.calls.proofs.ManageValid.{withdrawn, allow-flagged, prohibit-flagged, withdrawn-key}
 use Rattle.demands.specs.Machine.{nothing, allowed, forbidden}
 use Rattle.demands.specs.World.{World, ofFlow}
 use Rattle.demands.proofs.Shows.{resting, tagIn, machineBy, machineIn, machineOn, Shows}
@@ -61,7 +62,7 @@ module _ (s : State) (w : World) (flow : ℕ) (ok : valid s ≡ true) (shows : S
 
   withdrawn-by : (x : Session) → isOpen x ≡ true → x .flow ≡ flow
       → machineBy false (withdrawn flow x) ≡ forbidden (machineBy true x)
-  unfolding machineBy forbidden withdrawn closedBy actionOf owed isOpen resting tagIn
+  unfolding machineBy forbidden managedBy closedBy actionOf owed isOpen resting tagIn
   withdrawn-by x o e = rw (o, eq-eqb (x .flow) flow e)
 
   closed-own : (source : ℕ) → source < 2 ^ 48 → machineOn closed flow source ≡ forbidden (machineOn s flow source)
@@ -72,7 +73,7 @@ module _ (s : State) (w : World) (flow : ℕ) (ok : valid s ≡ true) (shows : S
       (barred (isAllowed flow s)) (λ x o here may. rw may (withdrawn-by x o here)))
 
   stays : (a : Bool) (x : Session) → isOpen x ≡ true → (x .flow ≡ flow → ⊥) → machineBy a (withdrawn flow x) ≡ machineBy a x
-  unfolding withdrawn
+  unfolding managedBy
   stays a x o apart = rw (o, ne-eqb (x .flow) flow apart)
 
   closed-beside : (n source : ℕ) → source < 2 ^ 48 → inPlan n ≡ true → (n ≡ flow → ⊥)
@@ -83,7 +84,7 @@ module _ (s : State) (w : World) (flow : ℕ) (ok : valid s ≡ true) (shows : S
       (open-map s ok quiet n source small (isAllowed n s) (withdrawn flow) (λ m. m) (withdrawn-key s flow ok there quiet) refl
       (λ x o own may. stays (isAllowed n s) x o (λ e. other (sym own ∙ e))))
 
-  pub prohibit-shown : Shows (prohibitedBy flow s) (ofFlow (flowNumbered flow (w .plan)) forbidden w)
+  pub prohibit-shown : Shows (managed mgmt-prohibit flow s) (ofFlow (flowNumbered flow (w .plan)) forbidden w)
   prohibit-shown =
       rw (prohibit-flagged s flow)
       (flow-shown s w flow ok shows there false (map (withdrawn flow) (s .sessions)) forbidden closed-own closed-beside)

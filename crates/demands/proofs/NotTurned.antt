@@ -1,31 +1,29 @@
 -- Frames that are never turned round: those of no set of the plan, and requests for an MP.
 use mathlib.Core.Path.{_≡_, refl}
 use mathlib.Core.Bool.{Bool, true, false, cond, false≢true}
-use mathlib.Core.List.{List}
+use mathlib.Core.List.{List, [], _∷_}
 use Prim.Native.Nat.{ℕ}
 use lib.Dec.{eqb, ltb}
 use lib.ListN.{length}
 use Rattle.codec.specs.declared.FrameSet.{FrameSet}
-use Rattle.codec.specs.declared.Place.{Place}
-use Rattle.codec.specs.declared.Place.the-variants.{NoSet, InSet}
 use Rattle.codec.specs.declared.Addressed.{Addressed}
 use Rattle.codec.specs.declared.Addressed.the-variants.{Elsewhere, Unicast, Multicast}
 use Rattle.codec.specs.declared.Request.{Request}
 use Rattle.codec.specs.declared.Request.the-variants.{Malformed, Reserved, Activate, Deactivate, State as StateRequest}
-use Rattle.codec.specs.FrameSet.{destination}
+use Rattle.codec.specs.FrameSet.{Member, member, destination}
 use Rattle.codec.specs.Request.{requestOf}
 use Rattle.plan.specs.Plan.{portNumbered, flowOfSet, inPlan}
 use Rattle.calls.specs.declared.Answer.the-variants.{Forwarded, Dropped, Replied, RepliedForwarded}
-use Rattle.calls.specs.Frame.{Arrived, pdu, goesOn}
+use Rattle.calls.specs.Frame.{Arrived, arrivedAt, pdu, goesOn}
 use Rattle.calls.specs.Calls.{frame}
 use Rattle.demands.specs.Machine.{isProhibited}
 use Rattle.demands.specs.World.{World}
 use Rattle.demands.specs.Frame.{Told, leaves, sends, own, replied, stepped, answers, requestServed, byWhom, inFlow}
-use Rattle.demands.specs.Frame.{inPlace, frameServed}
+use Rattle.demands.specs.Frame.{inSets, frameServed}
 use Rattle.demands.specs.Calls.{refusal, served, call}
-use Rattle.demands.specs.Frame.{isFor}
-use Rattle.demands.specs.Data.{placeAt, inSet, isLooped}
-use Rattle.demands.proofs.Lists.{by-test}
+use Rattle.demands.specs.Frame.{isFor, arrived}
+use Rattle.demands.specs.Data.{setsAt, inSet, isLooped}
+use Rattle.state.proofs.OwedRow.{by-test}
 use Rattle.demands.proofs.Served.{served-is, port-is}
 
 abbrev Not : Told → Type 0
@@ -74,16 +72,16 @@ module _ (keys : ℕ) (w : World) (port side : ℕ) (f out : List ℕ) where
   refused-not e = rw e
 
   -- A frame in no set of the plan is never turned round.
-  pub never-turned : inSet w port (placeAt w port f) ≡ false → isLooped (call keys w (frame port side f out) .answer) ≡ false
-  unfolding served frameServed placeAt inPlace inFlow inSet leaves isLooped
+  pub never-turned : inSet w port (setsAt w port f) ≡ false → isLooped (call keys w (frame port side f out) .answer) ≡ false
+  unfolding served frameServed setsAt inSets inFlow inSet arrived arrivedAt leaves isLooped
   never-turned gone =
       by-test (eqb (refusal keys w (frame port side f out)) 0)
-      (λ t. rw (served-is keys w (frame port side f out) t) (go (placeAt w port f) (port-is keys w port side f out t) gone))
+      (λ t. rw (served-is keys w (frame port side f out) t) (go (setsAt w port f) (port-is keys w port side f out t) gone))
       refused-not
     where
-      go : (place : Place) → portNumbered port (w .plan) .number ≡ port → inSet w port place ≡ false
-          → Not (inPlace keys w (portNumbered port (w .plan)) side f place)
-      go NoSet n e = refl
-      go (InSet set tags) n e =
+      go : (sets : List Member) → portNumbered port (w .plan) .number ≡ port → inSet w port sets ≡ false
+          → Not (inSets keys w port side f sets)
+      go [] n e = refl
+      go (member set taglen ∷ more) n e =
           let none : inPlan (flowOfSet (portNumbered port (w .plan) .number) set (w .plan) .number) ≡ false = rw n e in
           rw none

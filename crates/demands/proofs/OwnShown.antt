@@ -29,7 +29,7 @@ pub record OfFlow (plan : Plan) (set : FrameSet) (a : Arrived) : Type 0 where
   pub there : inPlan (a .flow .number) ≡ true
   pub small : SmallSet set
   pub source-fits : source (a .frame) < 2 ^ 48
-  pub tag-same : octets (a .tags) (number (a .tags) (drop 12 (a .frame))) ≡ tagOf (a .tags) (a .frame)
+  pub tag-same : octets (a .taglen) (number (a .taglen) (drop 12 (a .frame))) ≡ tagOf (a .taglen) (a .frame)
 
 module _ (s : State) (set : FrameSet) (a : Arrived) (f : OfFlow (s .plan) set a) where
   pub own-at : (w : World) → Shows s w

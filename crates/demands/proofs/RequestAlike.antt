@@ -18,14 +18,14 @@ use Rattle.machine.specs.declared.Decided.{Decided}
 use Rattle.machine.specs.Table.{Event, rqst-activate, rqst-deactivate, rqst-state}
 use Rattle.machine.specs.Machine.{conditionOf}
 use Rattle.plan.specs.declared.Flow.{Flow}
-use Rattle.state.specs.State.{State, isAllowed, roomFor, noticeDue, valid}
+use Rattle.state.specs.State.{State, isAllowed, fullFor, noticeDue, valid}
 use Rattle.calls.specs.declared.Answer.the-variants.{Forwarded, Dropped}
 use Rattle.calls.specs.Answer.{leaves}
 use Rattle.calls.specs.Frame.{Arrived, pdu, ownKey, own, ownAction, goesOn, newSession, changed, replied, decides}
 use Rattle.calls.specs.Frame.{machineServed, answers, requestServed}
 use Rattle.calls_requests.proofs.Changes.{decided-puts}
 use Rattle.demands.specs.Machine.{Step, gets, isProhibited}
-use Rattle.demands.specs.World.{World, become, room}
+use Rattle.demands.specs.World.{World, become, fullFor as fullForIn}
 use Rattle.demands.specs.Frame.{leaves as leavesIn, replied as repliedIn, stepped, answers as answersIn}
 use Rattle.demands.specs.Frame.{own as ownIn, requestServed as requestServedIn}
 use Rattle.demands.proofs.Shows.{Shows, Alike, leaves-alike, sends-alike, resting, tagIn}
@@ -67,11 +67,11 @@ module _ (set : FrameSet) (a : Arrived) (whom : Addressed) where
       own-asked = rw may at (own-shown s set a f settled w k)
 
       decision-same : (e : Event) (seconds : ℕ)
-          → decides s a e seconds ≡ decision (roomFor (a .flow) s) seconds (newSession a) (own s a) e
+          → decides s a e seconds ≡ decision (fullFor (a .flow) s) seconds (newSession a) (own s a) e
       unfolding decides ownAction conditionOf
       decision-same e seconds = rw may
 
-      answers-alike : (keys : ℕ) → ((g : Flow) → room keys w ≡ roomFor g s) → (r : Request)
+      answers-alike : (keys : ℕ) → ((g : Flow) → fullForIn keys g w ≡ fullFor g s) → (r : Request)
           → Alike (answers s a whom r) (answersIn keys w set a whom r)
       unfolding answers answersIn newSession tagIn
       answers-alike keys same Malformed = replied-alike s w k f 1 []
@@ -79,15 +79,15 @@ module _ (set : FrameSet) (a : Arrived) (whom : Addressed) where
       answers-alike keys same (Activate seconds) =
           step-alike rqst-activate seconds _
           (rw (decision-same rqst-activate seconds, own-asked, same (a .flow), ← f .tag-same)
-          (activate-same (roomFor (a .flow) s) seconds (newSession a) (own s a)))
+          (activate-same (fullFor (a .flow) s) seconds (newSession a) (own s a)))
       answers-alike keys same Deactivate =
           step-alike rqst-deactivate 0 _
-          (rw (decision-same rqst-deactivate 0, own-asked) (deactivate-same (roomFor (a .flow) s) 0 (newSession a) (own s a)))
+          (rw (decision-same rqst-deactivate 0, own-asked) (deactivate-same (fullFor (a .flow) s) 0 (newSession a) (own s a)))
       answers-alike keys same StateRequest =
           step-alike rqst-state 0 _
-          (rw (decision-same rqst-state 0, own-asked) (state-same (roomFor (a .flow) s) 0 (newSession a) (own s a)))
+          (rw (decision-same rqst-state 0, own-asked) (state-same (fullFor (a .flow) s) 0 (newSession a) (own s a)))
 
-    pub request-alike : (keys : ℕ) → ((g : Flow) → room keys w ≡ roomFor g s)
+    pub request-alike : (keys : ℕ) → ((g : Flow) → fullForIn keys g w ≡ fullFor g s)
         → Alike (requestServed s a whom) (requestServedIn keys w set a whom)
     unfolding requestServed requestServedIn
     request-alike keys same =

@@ -11,9 +11,9 @@ use Rattle.codec.specs.declared.FrameSet.{FrameSet}
 use Rattle.machine.specs.declared.Session.{Session}
 use Rattle.machine.specs.Machine.{isOpen, key, keyOf, owed}
 use Rattle.plan.specs.Plan.{Plan, flowOfSet, inPlan}
-use Rattle.state.specs.State.{State, isAllowed, goodSession, valid}
+use Rattle.state.specs.State.{State, isAllowed, goodSession, valid, withSessions, withClock, made}
 use Rattle.state.proofs.Rules.{valid-parts}
-use Rattle.calls.specs.Calls.{restartedAt, made}
+use Rattle.calls.specs.Calls.{restartedAt}
 use Rattle.demands.specs.Machine.{Owed, nothing, notice, prohibited, active, restarted}
 use Rattle.demands.specs.World.{World, fresh, all}
 use Rattle.demands.proofs.Shows.{resting, tagIn, machineBy, machineIn, machineOn, machineAt, Shows}
@@ -43,7 +43,7 @@ module _ (s : State) (w : World) (clock : ℕ) (ok : valid s ≡ true) (shows : 
 
   restart-at : (port : ℕ) (set : FrameSet) (source : ℕ) → source < 2 ^ 48
       → restarted (machineAt s port set source) ≡ machineAt (restartedAt clock s) port set source
-  unfolding machineAt machineOn machineIn restartedAt restarted isAllowed
+  unfolding machineAt machineOn machineIn restartedAt restarted isAllowed withClock withSessions
   restart-at port set source small = go (inPlan (flowOfSet port set (s .plan) .number))
     where
       n : ℕ
@@ -55,7 +55,7 @@ module _ (s : State) (w : World) (clock : ℕ) (ok : valid s ≡ true) (shows : 
       go false = refl
 
   pub restart-shown : Shows (restartedAt clock s) (all clock restarted w)
-  unfolding restartedAt all
+  unfolding restartedAt all withClock withSessions
   restart-shown =
       record {
         plan-same = shows .plan-same;

@@ -9,10 +9,10 @@ use Rattle.codec.specs.declared.Request.the-variants.{Activate, State as StateR
 use Rattle.codec.specs.FrameSet.{source, pduOf}
 use Rattle.codec.specs.Request.{levelOf, typeOf, copiesOf}
 use Rattle.codec_replies.specs.Reply.{replyFrame, replyPdu, tagOf}
-use Rattle.plan.specs.Plan.{portNumbered}
+use Rattle.plan.specs.Plan.{portNumbered, flowOfSet}
 use Rattle.calls.specs.Calls.{Call, frame}
 use Rattle.demands.specs.Machine.{Machine, Owed, inactive, active, isProhibited, statusOf}
-use Rattle.demands.specs.World.{World, room}
+use Rattle.demands.specs.World.{World, fullFor}
 use Rattle.demands.specs.Calls.{refusal, call}
 use Rattle.demands.specs.Runs.{worldAfter}
 use Rattle.demands.specs.Data.{Carries}
@@ -25,31 +25,31 @@ unfolding isProhibited
 active-free e = rw e
 
 -- An Activate `g` in the world `w` opens a session; the calls `cs` leave its machine alone; then its tester asks with `f`.
-module _ (keys : ℕ) (w : World) (port side : ℕ) (set : FrameSet) (tags seconds : ℕ) (g out : List ℕ) (cs : List Call)
-    (side' tags' : ℕ) (f out' : List ℕ) where
+module _ (keys : ℕ) (w : World) (port side : ℕ) (set : FrameSet) (taglen seconds : ℕ) (g out : List ℕ) (cs : List Call)
+    (side' taglen' : ℕ) (f out' : List ℕ) where
   abbrev opens : World
   opens = call keys w (frame port side g out) .world
 
   abbrev later : World
   later = worldAfter keys opens cs
 
-  pub seconds-told : {owed : Owed} → refusal keys w (frame port side g out) ≡ 0 → Carries w port side set tags g (Activate seconds)
+  pub seconds-told : {owed : Owed} → refusal keys w (frame port side g out) ≡ 0 → Carries w port side set taglen g (Activate seconds)
       → w .machine port set (source g) ≡ inactive owed
       → within 1 86400 seconds ≡ true
-      → room keys w ≡ 0
+      → fullFor keys (flowOfSet port set (w .plan)) w ≡ 0
       → leftAlone keys port set (source g) opens cs ≡ true
       → elapsedOver keys opens cs < seconds * 1000
       → refusal keys later (frame port side' f out') ≡ 0
-      → Carries later port side' set tags' f StateRequest
+      → Carries later port side' set taglen' f StateRequest
       → source f ≡ source g
       → call keys later (frame port side' f out') .octets
-      ≡ replyFrame (source f) (portNumbered port (later .plan) .address) (tagOf tags' f)
-      (replyPdu (levelOf (pduOf tags' f)) (typeOf (pduOf tags' f)) 0 (portNumbered port (later .plan) .address)
+      ≡ replyFrame (source f) (portNumbered port (later .plan) .address) (tagOf taglen' f)
+      (replyPdu (levelOf (pduOf taglen' f)) (typeOf (pduOf taglen' f)) 0 (portNumbered port (later .plan) .address)
       (record { active = true; side = side; seconds = (seconds * 1000 - elapsedOver keys opens cs + 999) / 1000 })
-      (copiesOf (pduOf tags' f)))
+      (copiesOf (pduOf taglen' f)))
   seconds-told free q is good space alone low free' q' same =
-      let m : _ = opened keys w port side set tags g out free q is good space in
+      let m : _ = opened keys w port side set taglen g out free q is good space in
       let here : _ = time-left keys port set (source g) opens cs _ side (seconds * 1000) _ m alone low in
-      state-says keys later port side' set tags' f out' free' q'
+      state-says keys later port side' set taglen' f out' free' q'
       (active-free (ap (λ x. later .machine port set x) same ∙ here))
       (ap (λ x. statusOf (later .machine port set x)) same ∙ seconds-left keys port set (source g) opens cs m alone low)

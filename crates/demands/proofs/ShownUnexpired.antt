@@ -18,8 +18,8 @@ use Rattle.calls.proofs.Standing.{good-parts, open-time}
 use Rattle.demands.specs.Machine.{Owed, nothing, notice as owing, prohibited, active}
 use Rattle.demands.specs.World.{World}
 use Rattle.demands.proofs.Shows.{resting, tagIn, machineBy, machineIn, machineOn, machineAt, SmallSet, Shows}
-use Rattle.demands.proofs.Going.{Going}
-use Rattle.demands.proofs.Going.{either-going, going-left}
+use Rattle.demands.proofs.TimeLeft.{Going}
+use Rattle.demands.proofs.TimeLeft.{either-going, going-left}
 
 resting-going : (a : Bool) (owed : Owed) → Going (resting a owed)
 unfolding resting Going

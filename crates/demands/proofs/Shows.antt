@@ -22,7 +22,7 @@ resting allowed owed = cond allowed (inactive owed) (prohibited owed)
 
 -- the tag octets of a session
 unfoldable pub tagIn : Session → List ℕ
-tagIn x = octets (x .count) (x .tag)
+tagIn x = octets (x .taglen) (x .tag)
 
 -- the machine of a session
 unfoldable pub machineBy : Bool → Session → Machine

@@ -18,9 +18,9 @@ use Rattle.demands.specs.Machine.{Owed, nothing, notice as owing, active
 use Rattle.demands.specs.World.{World, sameSet, become, ofFlow, all, flowOf, sourceOf, at, atFlow, firstOwing}
 use Rattle.demands.specs.Frame.{leaves, sends}
 use Rattle.demands.specs.Calls.{refusal, served, call, noticed, noticeServed}
-use Rattle.demands.specs.Data.{placeAt, isOwn}
+use Rattle.demands.specs.Data.{setsAt, isOwn}
 use Rattle.demands.specs.Elapsed.{elapsedBy, asks, spares}
-use Rattle.demands.proofs.Lists.{by-test}
+use Rattle.state.proofs.OwedRow.{by-test}
 use Rattle.demands.proofs.SetsApart.{same-told}
 use Rattle.demands.proofs.Served.{refused-is, served-is}
 use Rattle.demands.proofs.Apart.{frame-keeps}
@@ -84,7 +84,7 @@ module _ (keys : ℕ) (p : ℕ) (s : FrameSet) (x : ℕ) (w : World) (level side
       rw all-left
       (by-test (eqb (refusal keys w (frame port side f out)) 0)
       (λ t.
-      let free : not (isOwn w port f p s x && asks w port side f (placeAt w port f)) ≡ true = rw t at a in
+      let free : not (isOwn w port f p s x && asks w port side f (setsAt w port f)) ≡ true = rw t at a in
       frame-keeps keys w port side f out p s x (not-true _ free) ∙ m)
       (λ t. rw (refused-is keys w (frame port side f out) t) m))
 

@@ -20,21 +20,21 @@ use Rattle.demands.proofs.MachineShown.{shown}
 abbrev pub stepBy : Decided → Machine → Step
 stepBy d m = gets (d .code) (shown true (after (d .change) m))
 
-module _ (room seconds : ℕ) (new : Session) where
+module _ (full seconds : ℕ) (new : Session) where
   abbrev pub decision : Machine → Event → Decided
-  decision m e = decided (actionOf (activity m) e) room seconds new m
+  decision m e = decided (actionOf (activity m) e) full seconds new m
 
   pub activate-same : (m : Machine)
-      → activate room seconds (new .level) (new .side) (tagIn new) (shown true m) ≡ stepBy (decision m rqst-activate) m
+      → activate full seconds (new .level) (new .side) (tagIn new) (shown true m) ≡ stepBy (decision m rqst-activate) m
   unfolding activate decided actionOf activity admitted restarted refreshed goodSeconds sameMp answered after lasting tagIn resting
-  activate-same Inactive = go (within 1 86400 seconds) (eqb room 0)
+  activate-same Inactive = go (within 1 86400 seconds) (eqb full 0)
     where
       go : (good free : Bool)
           → cond good
-          (cond free (gets 0 (active (new .level) (new .side) (seconds * 1000) (tagIn new))) (gets room (inactive nothing)))
+          (cond free (gets 0 (active (new .level) (new .side) (seconds * 1000) (tagIn new))) (gets full (inactive nothing)))
           (gets 6 (inactive nothing))
           ≡ stepBy
-          (cond good (cond free (record { code = 0; change = Opened (lasting (seconds * 1000) new) }) (answered room)) (answered 6))
+          (cond good (cond free (record { code = 0; change = Opened (lasting (seconds * 1000) new) }) (answered full)) (answered 6))
           Inactive
       go true true = refl
       go true false = refl

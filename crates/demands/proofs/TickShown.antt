@@ -6,10 +6,11 @@ use Rattle.octets.proofs.Cases.{by-le}
 use Rattle.codec.specs.declared.FrameSet.{FrameSet}
 use Rattle.machine.specs.declared.Session.{Session}
 use Rattle.machine.specs.Table.{actionOf}
-use Rattle.machine.specs.Machine.{isOpen, lasting, owed, closedBy}
+use Rattle.machine.specs.Machine.{isOpen, lasting, owed}
+use Rattle.machine.specs.Management.{closedBy}
 use Rattle.machine.specs.Time.{elapsed, ticked}
 use Rattle.plan.specs.Plan.{flowOfSet, inPlan}
-use Rattle.state.specs.State.{State, isAllowed, noticeDue, valid}
+use Rattle.state.specs.State.{State, isAllowed, noticeDue, valid, withSessions, withClock}
 use Rattle.calls.specs.Calls.{tickedTo}
 use Rattle.calls.proofs.TickValid.{ticked-key}
 use Rattle.demands.specs.Machine.{nothing, prohibited, ticked as passed}
@@ -31,14 +32,14 @@ module _ (s : State) (w : World) (clock : ℕ) (ok : valid s ≡ true) (quiet : 
   e = elapsed clock (s .clock)
 
   tick-on : (n source : ℕ) → source < 2 ^ 48 → machineOn (tickedTo clock s) n source ≡ passed e (machineOn s n source)
-  unfolding machineOn tickedTo isAllowed
+  unfolding machineOn tickedTo isAllowed withClock withSessions
   tick-on n source small =
       open-map s ok quiet n source small (isAllowed n s) (ticked e) (passed e) (ticked-key e) (passed-resting e (isAllowed n s))
       (λ x o here may. rw may (passed-by e x o))
 
   tick-at : (port : ℕ) (set : FrameSet) (source : ℕ) → source < 2 ^ 48
       → passed e (machineAt s port set source) ≡ machineAt (tickedTo clock s) port set source
-  unfolding machineAt tickedTo passed
+  unfolding machineAt tickedTo passed withClock withSessions
   tick-at port set source small = go (inPlan (flowOfSet port set (s .plan) .number))
     where
       go : (b : Bool) → passed e (cond b (machineOn s (flowOfSet port set (s .plan) .number) source) (prohibited nothing))
@@ -47,7 +48,7 @@ module _ (s : State) (w : World) (clock : ℕ) (ok : valid s ≡ true) (quiet : 
       go false = refl
 
   pub tick-shown : Shows (tickedTo clock s) (all clock (passed (elapsed clock (w .clock))) w)
-  unfolding tickedTo all
+  unfolding tickedTo all withClock withSessions
   tick-shown =
       record {
         plan-same = shows .plan-same;

@@ -7,35 +7,33 @@ use lib.Dec.{eqb, leb}
 use borrow.Author.Tests.{eqb-true, not-true}
 use Rattle.octets.proofs.Same.{both-true}
 use Rattle.codec.specs.declared.FrameSet.{FrameSet}
-use Rattle.codec.specs.declared.Place.{Place}
-use Rattle.codec.specs.declared.Place.the-variants.{NoSet, InSet}
 use Rattle.codec.specs.declared.Addressed.{Addressed}
 use Rattle.codec.specs.declared.Addressed.the-variants.{Elsewhere, Unicast, Multicast}
-use Rattle.codec.specs.FrameSet.{source, soam, pduOf}
+use Rattle.codec.specs.FrameSet.{only, source, soam, pduOf}
 use Rattle.codec.specs.Request.{levelOf}
 use Rattle.machine.specs.declared.Fate.the-variants.{Forward, Drop, Loop}
 use Rattle.plan.specs.Plan.{portNumbered}
-use Rattle.calls.specs.Frame.{Arrived, pdu, forMp}
+use Rattle.calls.specs.Frame.{Arrived, arrivedAt, pdu, forMp}
 use Rattle.calls.specs.Calls.{frame}
 use Rattle.demands.specs.Machine.{Machine, prohibited, inactive, active, fate}
 use Rattle.demands.specs.World.{World}
 use Rattle.demands.specs.Frame.{leaves, sends, own, byFate, dataServed}
 use Rattle.demands.specs.Calls.{refusal, call}
 use Rattle.demands.specs.Frame.{isFor, arrived}
-use Rattle.demands.specs.Data.{placeAt, inSet, IsData, facing, exempt, Turned, isLooped}
-use Rattle.demands.proofs.Lists.{by-test}
-use Rattle.demands.proofs.Served.{port-is, set-is, data-is}
+use Rattle.demands.specs.Data.{setsAt, inSet, IsData, facing, exempt, Turned, isLooped}
+use Rattle.state.proofs.OwedRow.{by-test}
+use Rattle.demands.proofs.Served.{port-is, by-sets, set-is, data-is}
 use Rattle.demands.proofs.NotTurned.{whom-not, refused-not, never-turned}
 
 -- what a machine decides of data
 fate-turns : (w : World) (a : Arrived) (m : Machine)
-    → isLooped (byFate w a (fate (soam (a .tags) (a .frame)) (levelOf (pdu a)) (a .side) m) .answer)
-    ≡ (facing (a .side) m && not (exempt (a .tags) (a .frame) m))
+    → isLooped (byFate w a (fate (soam (a .taglen) (a .frame)) (levelOf (pdu a)) (a .side) m) .answer)
+    ≡ (facing (a .side) m && not (exempt (a .taglen) (a .frame) m))
 unfolding byFate fate leaves sends isLooped facing exempt pdu
 fate-turns w a (prohibited owed) = refl
 fate-turns w a (inactive owed) = refl
 fate-turns w a (active level side left tag) =
-    go (soam (a .tags) (a .frame) && leb (levelOf (pduOf (a .tags) (a .frame))) level) (eqb (a .side) side)
+    go (soam (a .taglen) (a .frame) && leb (levelOf (pduOf (a .taglen) (a .frame))) level) (eqb (a .side) side)
   where
     go : (oam same : Bool)
         → isLooped (byFate w a (cond oam Forward (cond same Loop Drop)) .answer) ≡ (same && not oam)
@@ -45,21 +43,21 @@ fate-turns w a (active level side left tag) =
     go false false = refl
 
 module _ (keys : ℕ) (w : World) (port side : ℕ) (f out : List ℕ) where
-  data-turns : {set : FrameSet} {tags : ℕ} → eqb (refusal keys w (frame port side f out)) 0 ≡ true → IsData w port side set tags f
+  data-turns : {set : FrameSet} {taglen : ℕ} → eqb (refusal keys w (frame port side f out)) 0 ≡ true → IsData w port side set taglen f
       → isLooped (call keys w (frame port side f out) .answer)
-      ≡ (facing side (w .machine port set (source f)) && not (exempt tags f (w .machine port set (source f))))
-  unfolding dataServed own arrived
-  data-turns {set = set} {tags = tags} t d =
+      ≡ (facing side (w .machine port set (source f)) && not (exempt taglen f (w .machine port set (source f))))
+  unfolding dataServed own arrived arrivedAt
+  data-turns {set = set} {taglen = taglen} t d =
       let n : portNumbered port (w .plan) .number ≡ port = port-is keys w port side f out t in
       rw (data-is keys w port side f out t d)
-      (fate-turns w (arrived w port side set tags f) (own w set (arrived w port side set tags f)) ∙ rw n)
+      (fate-turns w (arrived w port side set taglen f) (own w set (arrived w port side set taglen f)) ∙ rw n)
 
   -- A data frame that is not refused, and is no service OAM of the session's level or below, is turned round exactly when its own
   -- machine is active and has its side.
-  pub turned-round : {set : FrameSet} {tags : ℕ} → refusal keys w (frame port side f out) ≡ 0 → IsData w port side set tags f
-      → exempt tags f (w .machine port set (source f)) ≡ false
+  pub turned-round : {set : FrameSet} {taglen : ℕ} → refusal keys w (frame port side f out) ≡ 0 → IsData w port side set taglen f
+      → exempt taglen f (w .machine port set (source f)) ≡ false
       → isLooped (call keys w (frame port side f out) .answer) ≡ facing side (w .machine port set (source f))
-  turned-round {set = set} {tags = tags} s d e =
+  turned-round {set = set} {taglen = taglen} s d e =
       rw (data-turns (rw s) d, e) (and-true (facing side (w .machine port set (source f))))
     where
       and-true : (b : Bool) → (b && true) ≡ b
@@ -67,41 +65,43 @@ module _ (keys : ℕ) (w : World) (port side : ℕ) (f out : List ℕ) where
       and-true false = refl
 
   -- a request for an MP is not
-  asked : (set : FrameSet) (tags : ℕ) (whom : Addressed) → eqb (refusal keys w (frame port side f out)) 0 ≡ true
-      → placeAt w port f ≡ InSet set tags → inSet w port (InSet set tags) ≡ true
-      → isFor whom ≡ true → forMp (arrived w port side set tags f) ≡ whom
+  asked : (set : FrameSet) (taglen : ℕ) (whom : Addressed) → eqb (refusal keys w (frame port side f out)) 0 ≡ true
+      → setsAt w port f ≡ only set taglen → inSet w port (only set taglen) ≡ true
+      → isFor whom ≡ true → forMp (arrived w port side set taglen f) ≡ whom
       → isLooped (call keys w (frame port side f out) .answer) ≡ false
-  asked set tags whom t placed planned for e =
-      rw (set-is keys w port side f out set tags t placed planned, e)
-      (whom-not keys w set (arrived w port side set tags f) whom for)
+  asked set taglen whom t placed planned for e =
+      rw (set-is keys w port side f out set taglen t placed planned, e)
+      (whom-not keys w set (arrived w port side set taglen f) whom for)
 
   -- ---- what is turned round
 
   module _ (h : isLooped (call keys w (frame port side f out) .answer) ≡ true)
       (t : eqb (refusal keys w (frame port side f out)) 0 ≡ true) where
-    by-whom : (set : FrameSet) (tags : ℕ) → placeAt w port f ≡ InSet set tags → inSet w port (InSet set tags) ≡ true
-        → (whom : Addressed) → forMp (arrived w port side set tags f) ≡ whom → Turned w port side f
+    by-whom : (set : FrameSet) (taglen : ℕ) → setsAt w port f ≡ only set taglen → inSet w port (only set taglen) ≡ true
+        → (whom : Addressed) → forMp (arrived w port side set taglen f) ≡ whom → Turned w port side f
     unfolding isFor
-    by-whom set tags placed planned Elsewhere e =
-        let d : IsData w port side set tags f = record { placed = placed; planned = planned; for-no-mp = e } in
+    by-whom set taglen placed planned Elsewhere e =
+        let d : IsData w port side set taglen f = record { placed = placed; planned = planned; for-no-mp = e } in
         let m : Machine = w .machine port set (source f) in
-        let both : _ = both-true (facing side m) (not (exempt tags f m)) (sym (data-turns t d) ∙ h) in
-        record { set = set; tags = tags; is-data = d; faces = both .0; not-exempt = not-true (exempt tags f m) (both .1) }
-    by-whom set tags placed planned Unicast e = absurd (false≢true (sym (asked set tags Unicast t placed planned refl e) ∙ h))
-    by-whom set tags placed planned Multicast e = absurd (false≢true (sym (asked set tags Multicast t placed planned refl e) ∙ h))
+        let both : _ = both-true (facing side m) (not (exempt taglen f m)) (sym (data-turns t d) ∙ h) in
+        record { set = set; taglen = taglen; is-data = d; faces = both .0; not-exempt = not-true (exempt taglen f m) (both .1) }
+    by-whom set taglen placed planned Unicast e = absurd (false≢true (sym (asked set taglen Unicast t placed planned refl e) ∙ h))
+    by-whom set taglen placed planned Multicast e = absurd (false≢true (sym (asked set taglen Multicast t placed planned refl e) ∙ h))
 
-    by-place : (place : Place) → placeAt w port f ≡ place → Turned w port side f
+    is-turned : Turned w port side f
     unfolding inSet
-    by-place NoSet e = absurd (false≢true (sym (never-turned keys w port side f out (rw e)) ∙ h))
-    by-place (InSet set tags) e =
-        by-test (inSet w port (InSet set tags))
-        (λ there. by-whom set tags e there (forMp (arrived w port side set tags f)) refl)
-        (λ gone. absurd (false≢true (sym (never-turned keys w port side f out (rw e gone)) ∙ h)))
+    is-turned =
+        by-sets keys w port side f out t
+        (λ e. absurd (false≢true (sym (never-turned keys w port side f out (rw e)) ∙ h)))
+        (λ set taglen e.
+        by-test (inSet w port (only set taglen))
+        (λ there. by-whom set taglen e there (forMp (arrived w port side set taglen f)) refl)
+        (λ gone. absurd (false≢true (sym (never-turned keys w port side f out (rw e gone)) ∙ h))))
 
   -- Whatever is turned round is such a frame.
   pub turned-only : isLooped (call keys w (frame port side f out) .answer) ≡ true
       → (refusal keys w (frame port side f out) ≡ 0) × Turned w port side f
   turned-only h =
       by-test (eqb (refusal keys w (frame port side f out)) 0)
-      (λ t. (eqb-true (refusal keys w (frame port side f out)) 0 t, by-place h t (placeAt w port f) refl))
+      (λ t. (eqb-true (refusal keys w (frame port side f out)) 0 t, is-turned h t))
       (λ t. absurd (false≢true (sym (refused-not keys w port side f out t) ∙ h)))

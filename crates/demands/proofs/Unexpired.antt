@@ -16,9 +16,9 @@ use Rattle.demands.specs.World.{World, fresh, sameSet, become, ofFlow, a
 use Rattle.demands.specs.Frame.{leaves, sends, own}
 use Rattle.demands.specs.Calls.{refusal, served, call, makeServed, noticed, noticeServed}
 use Rattle.demands.specs.Runs.{worldAfter}
-use Rattle.demands.proofs.Lists.{by-test}
-use Rattle.demands.proofs.Going.{Going, activate-going, deactivate-going, ticked-going, allowed-going, forbidden-going}
-use Rattle.demands.proofs.Going.{restarted-going, taken-going, either-going, going-left}
+use Rattle.state.proofs.OwedRow.{by-test}
+use Rattle.demands.proofs.TimeLeft.{Going, activate-going, deactivate-going, ticked-going, allowed-going, forbidden-going}
+use Rattle.demands.proofs.TimeLeft.{restarted-going, taken-going, either-going, going-left}
 use Rattle.demands.proofs.Served.{refused-is, served-is, frame-world}
 
 abbrev AllGoing : World → Type 0
@@ -55,7 +55,7 @@ module _ (keys : ℕ) (w : World) (g : AllGoing w) where
   unfolding own
   frame-going port side f out =
       frame-world keys w port side f out AllGoing g
-      (λ set tags placed n.
+      (λ set taglen placed n.
       record {
         asked = become-going _ set _ _ (g _ set _);
         activated = λ c seconds. become-going _ set _ _ (activate-going _ seconds _ _ _ _ (g _ set _));

@@ -4,13 +4,11 @@ use mathlib.Core.Bool.{Bool, true, false, cond, _&&_, _||_, not}
 use Prim.Native.Nat.{ℕ, _+_}
 use lib.Dec.{eqb}
 use Rattle.codec.specs.declared.FrameSet.{FrameSet}
-use Rattle.codec.specs.declared.Place.{Place}
-use Rattle.codec.specs.declared.Place.the-variants.{NoSet, InSet}
 use Rattle.codec.specs.declared.Addressed.{Addressed}
 use Rattle.codec.specs.declared.Addressed.the-variants.{Elsewhere, Unicast, Multicast}
 use Rattle.codec.specs.declared.Request.{Request}
 use Rattle.codec.specs.declared.Request.the-variants.{Malformed, Reserved, Activate, Deactivate, State as StateRequest}
-use Rattle.codec.specs.FrameSet.{destination, setOf}
+use Rattle.codec.specs.FrameSet.{Member, member, destination, setOf}
 use Rattle.codec.specs.Request.{requestOf}
 use Rattle.machine.specs.Time.{elapsed}
 use Rattle.plan.specs.Plan.{flowNumbered}
@@ -19,7 +17,7 @@ use Rattle.calls.specs.Calls.{Call, make, frame, tick, allow, prohibit, notice,
 use Rattle.demands.specs.World.{World, sameSet}
 use Rattle.demands.specs.Calls.{refusal, call}
 use Rattle.demands.specs.Frame.{arrived}
-use Rattle.demands.specs.Data.{placeAt, isOwn}
+use Rattle.demands.specs.Data.{setsAt, isOwn}
 
 -- ---- the milliseconds of a run
 
@@ -53,17 +51,18 @@ asksChange a Elsewhere = false
 asksChange a Unicast = changes (requestOf Unicast (destination (a .frame)) (pdu a))
 asksChange a Multicast = changes (requestOf Multicast (destination (a .frame)) (pdu a))
 
--- Does a frame in this place carry such a request for an MP?
-unfoldable pub asks : World → ℕ → ℕ → List ℕ → Place → Bool
-asks w port side f NoSet = false
-asks w port side f (InSet set tags) = asksChange (arrived w port side set tags f) (forMp (arrived w port side set tags f))
+-- Does a frame of these sets, at most one, carry such a request for an MP?
+unfoldable pub asks : World → ℕ → ℕ → List ℕ → List Member → Bool
+asks w port side f [] = false
+asks w port side f (member set taglen ∷ more) =
+    asksChange (arrived w port side set taglen f) (forMp (arrived w port side set taglen f))
 
 module _ (keys : ℕ) (p : ℕ) (s : FrameSet) (x : ℕ) where
   -- Does the call leave the machine of p, s and x to the time that passes? A frame does that is not its own, or that asks for no
   -- change; an allow, a notice that is taken, and a prohibit of another flow.
   unfoldable pub spares : World → Call → Bool
   spares w (make text clock) = false
-  spares w (frame port side f out) = not (isOwn w port f p s x && asks w port side f (placeAt w port f))
+  spares w (frame port side f out) = not (isOwn w port f p s x && asks w port side f (setsAt w port f))
   spares w (tick clock) = true
   spares w (allow flow) = true
   spares w (prohibit flow) =

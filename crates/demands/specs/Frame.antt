@@ -1,28 +1,25 @@
 -- A frame call that is not refused: "Finding the machine", "Requests at an MP" and "Machine". It touches its own machine alone.
-use mathlib.Core.List.{List, []}
+use mathlib.Core.List.{List, [], _∷_}
 use mathlib.Core.Bool.{Bool, true, false, cond}
 use Prim.Native.Nat.{ℕ}
 use lib.ListN.{length}
 use lib.Dec.{ltb}
 use Rattle.codec.specs.declared.FrameSet.{FrameSet}
-use Rattle.codec.specs.declared.Place.{Place}
-use Rattle.codec.specs.declared.Place.the-variants.{NoSet, InSet}
 use Rattle.codec.specs.declared.Addressed.{Addressed}
 use Rattle.codec.specs.declared.Addressed.the-variants.{Elsewhere, Unicast, Multicast}
 use Rattle.codec.specs.declared.Request.{Request}
 use Rattle.codec.specs.declared.Request.the-variants.{Malformed, Reserved, Activate, Deactivate, State as StateRequest}
-use Rattle.codec.specs.FrameSet.{placeOf, destination, source, soam}
+use Rattle.codec.specs.FrameSet.{Member, member, setsOf, destination, source, soam}
 use Rattle.codec.specs.Request.{requestOf, copiesOf, levelOf, typeOf}
 use Rattle.codec_replies.specs.Reply.{replyFrame, replyPdu, tagOf, looped}
 use Rattle.machine.specs.declared.Fate.{Fate}
 use Rattle.machine.specs.declared.Fate.the-variants.{Forward, Drop, Loop}
-use Rattle.plan.specs.declared.Port.{Port}
-use Rattle.plan.specs.Plan.{portNumbered, flowOfSet, inPlan}
+use Rattle.plan.specs.Plan.{portNumbered, inPlan}
 use Rattle.calls.specs.declared.Answer.{Answer}
 use Rattle.calls.specs.declared.Answer.the-variants.{Forwarded, Dropped, Looped, Replied, RepliedForwarded}
-use Rattle.calls.specs.Frame.{Arrived, pdu, forMp, goesOn}
+use Rattle.calls.specs.Frame.{Arrived, arrivedAt, pdu, forMp, goesOn}
 use Rattle.demands.specs.Machine.{Machine, Step, gets, activate, deactivate, statusOf, fate, isProhibited}
-use Rattle.demands.specs.World.{World, become, room}
+use Rattle.demands.specs.World.{World, become, fullFor}
 
 -- an answer, the world after it, and the octets that are written at the front of the lent output
 pub record Told : Type 0 where
@@ -45,16 +42,16 @@ own w set a = w .machine (a .port .number) set (source (a .frame))
 unfoldable pub byFate : World → Arrived → Fate → Told
 byFate w a Forward = leaves Forwarded w
 byFate w a Drop = leaves Dropped w
-byFate w a Loop = sends Looped w (looped (a .port .address) (a .frame))
+byFate w a Loop = sends Looped w (looped (a .loopSource) (a .frame))
 
 unfoldable pub dataServed : World → FrameSet → Arrived → Told
-dataServed w set a = byFate w a (fate (soam (a .tags) (a .frame)) (levelOf (pdu a)) (a .side) (own w set a))
+dataServed w set a = byFate w a (fate (soam (a .taglen) (a .frame)) (levelOf (pdu a)) (a .side) (own w set a))
 
 -- The reply, with the machine's status after the call. At a MIP, a reply to a multicast request is "reply and forward".
 unfoldable pub replied : World → FrameSet → Arrived → Addressed → ℕ → List ℕ → Told
 replied w set a whom code copies =
     sends (cond (goesOn a whom) RepliedForwarded Replied) w
-    (replyFrame (source (a .frame)) (a .port .address) (tagOf (a .tags) (a .frame))
+    (replyFrame (source (a .frame)) (a .replySource) (tagOf (a .taglen) (a .frame))
     (replyPdu (levelOf (pdu a)) (typeOf (pdu a)) code (a .port .address) (statusOf (own w set a)) copies))
 
 -- The machine takes its step, and the reply has the step's code.
@@ -70,9 +67,7 @@ isFor Multicast = true
 
 -- a frame of a set at a port, from a side
 unfoldable pub arrived : World → ℕ → ℕ → FrameSet → ℕ → List ℕ → Arrived
-arrived w port side set tags f =
-    let p = portNumbered port (w .plan) in
-    record { port = p; side = side; flow = flowOfSet (p .number) set (w .plan); tags = tags; frame = f }
+arrived w port side set taglen f = arrivedAt (w .plan) (portNumbered port (w .plan)) side f set taglen
 
 module _ (keys : ℕ) where
   -- Malformed: reply code 1, no copied TLVs. Message type 0 or 4 to 255: reply code 10. Else the machine decides.
@@ -81,7 +76,7 @@ module _ (keys : ℕ) where
   answers w set a whom Reserved = replied w set a whom 10 (copiesOf (pdu a))
   answers w set a whom (Activate seconds) =
       stepped w set a whom
-      (activate (room keys w) seconds (levelOf (pdu a)) (a .side) (tagOf (a .tags) (a .frame)) (own w set a))
+      (activate (fullFor keys (a .flow) w) seconds (levelOf (pdu a)) (a .side) (tagOf (a .taglen) (a .frame)) (own w set a))
   answers w set a whom Deactivate = stepped w set a whom (deactivate (levelOf (pdu a)) (a .side) (own w set a))
   answers w set a whom StateRequest = stepped w set a whom (gets 0 (own w set a))
 
@@ -101,12 +96,10 @@ module _ (keys : ℕ) where
   unfoldable pub inFlow : World → FrameSet → Arrived → Told
   inFlow w set a = cond (inPlan (a .flow .number)) (byWhom w set a (forMp a)) (leaves Forwarded w)
 
-  unfoldable pub inPlace : World → Port → ℕ → List ℕ → Place → Told
-  inPlace w port side frame NoSet = leaves Forwarded w
-  inPlace w port side frame (InSet set tags) =
-      inFlow w set
-      (record { port = port; side = side; flow = flowOfSet (port .number) set (w .plan); tags = tags; frame = frame })
+  -- A frame has at most one set; one without a set is forwarded.
+  unfoldable pub inSets : World → ℕ → ℕ → List ℕ → List Member → Told
+  inSets w port side frame [] = leaves Forwarded w
+  inSets w port side frame (member set taglen ∷ more) = inFlow w set (arrived w port side set taglen frame)
 
   unfoldable pub frameServed : World → ℕ → ℕ → List ℕ → Told
-  frameServed w port side frame =
-      inPlace w (portNumbered port (w .plan)) side frame (placeOf (portNumbered port (w .plan) .kind) frame)
+  frameServed w port side frame = inSets w port side frame (setsOf (portNumbered port (w .plan) .kind) frame)

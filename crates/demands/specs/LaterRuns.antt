@@ -7,8 +7,7 @@ use lib.ListN.{length}
 use Rattle.octets.specs.Octets.{over}
 use Rattle.octets.specs.Lists.{within}
 use Rattle.codec.specs.declared.FrameSet.{FrameSet}
-use Rattle.codec.specs.declared.Place.the-variants.{InSet}
-use Rattle.codec.specs.FrameSet.{destination, placeOf}
+use Rattle.codec.specs.FrameSet.{destination, only, setsOf}
 use Rattle.codec.specs.Request.{typeOf, malformed}
 use Rattle.codec_tlvs.specs.Tlv.{Tlv}
 use Rattle.plan.specs.Plan.{portNumbered, inPlan}
@@ -27,20 +26,20 @@ use Rattle.demands.specs.Later.{Later}
 -- ---- which requests
 
 -- A well-formed request of type 1 to 3 for an MP, with 12 PDU octets or more.
-pub record Asks (w : World) (port side : ℕ) (set : FrameSet) (tags : ℕ) (f : List ℕ) : Type 0 where
-  pub placed : placeOf (portNumbered port (w .plan) .kind) f ≡ InSet set tags
-  pub in-plan : inPlan (arrived w port side set tags f .flow .number) ≡ true
-  pub for-mp : isFor (forMp (arrived w port side set tags f)) ≡ true
-  pub long : 12 ≤ length (pdu (arrived w port side set tags f))
-  pub type-known : within 1 3 (typeOf (pdu (arrived w port side set tags f))) ≡ true
-  pub well-formed : malformed (forMp (arrived w port side set tags f)) (destination f) (pdu (arrived w port side set tags f)) ≡ false
+pub record Asks (w : World) (port side : ℕ) (set : FrameSet) (taglen : ℕ) (f : List ℕ) : Type 0 where
+  pub placed : setsOf (portNumbered port (w .plan) .kind) f ≡ only set taglen
+  pub in-plan : inPlan (arrived w port side set taglen f .flow .number) ≡ true
+  pub for-mp : isFor (forMp (arrived w port side set taglen f)) ≡ true
+  pub long : 12 ≤ length (pdu (arrived w port side set taglen f))
+  pub type-known : within 1 3 (typeOf (pdu (arrived w port side set taglen f))) ≡ true
+  pub well-formed : malformed (forMp (arrived w port side set taglen f)) (destination f) (pdu (arrived w port side set taglen f)) ≡ false
 
 -- ---- a run rewritten: any requests of it, each its own way
 
 -- what became of a call: nothing; or its TLVs were these, and are now those, with so many octets of tag
 pub data Became : Type 0 where
   left-alone : Became
-  rewritten : (tags : ℕ) (ts us : List Tlv) → Became
+  rewritten : (taglen : ℕ) (ts us : List Tlv) → Became
 
 module _ (keys : ℕ) where
   pub data Rewritten : World → List Call → List Call → List Became → Type 0 where
@@ -48,13 +47,13 @@ module _ (keys : ℕ) where
     same : {w : World} {c : Call} {cs ds : List Call} {fs : List Became}
         → Rewritten (call keys w c .world) cs ds fs
         → Rewritten w (c ∷ cs) (c ∷ ds) (left-alone ∷ fs)
-    later : {w : World} {port side : ℕ} {set : FrameSet} {tags : ℕ} {f g out : List ℕ} {cs ds : List Call} {fs : List Became}
-        → Asks w port side set tags f
+    later : {w : World} {port side : ℕ} {set : FrameSet} {taglen : ℕ} {f g out : List ℕ} {cs ds : List Call} {fs : List Became}
+        → Asks w port side set taglen f
         → (r : Later f g)
-        → length (r .head) ≡ 14 + tags
+        → length (r .head) ≡ 14 + taglen
         → Rewritten (call keys w (frame port side f out) .world) cs ds fs
         → Rewritten w (frame port side f out ∷ cs) (frame port side g out ∷ ds)
-        (rewritten tags (r .old .tlvs) (r .new .tlvs) ∷ fs)
+        (rewritten taglen (r .old .tlvs) (r .new .tlvs) ∷ fs)
 
 -- ---- what is seen
 
@@ -87,11 +86,11 @@ pub data Silent : Answer → Type 0 where
 -- What is seen of a call and of what became of it: the same, or the same outcome with two such replies.
 pub data Matches : Call → Became → Seen → Seen → Type 0 where
   equal : {c : Call} {x : Seen} → Matches c left-alone x x
-  silent : {c : Call} {tags : ℕ} {ts us : List Tlv} {a : Answer} → Silent a
-      → Matches c (rewritten tags ts us) (record { number = numberOf a; out = lent c }) (record { number = numberOf a; out = lent c })
-  replied : {c : Call} {tags : ℕ} {ts us : List Tlv} {a : ℕ → Answer} {old new : List ℕ} → Reply a
-      → Replies (16 + tags) ts us old new
-      → Matches c (rewritten tags ts us) (record { number = numberOf (a (length old)); out = over old (lent c) })
+  silent : {c : Call} {taglen : ℕ} {ts us : List Tlv} {a : Answer} → Silent a
+      → Matches c (rewritten taglen ts us) (record { number = numberOf a; out = lent c }) (record { number = numberOf a; out = lent c })
+  replied : {c : Call} {taglen : ℕ} {ts us : List Tlv} {a : ℕ → Answer} {old new : List ℕ} → Reply a
+      → Replies (16 + taglen) ts us old new
+      → Matches c (rewritten taglen ts us) (record { number = numberOf (a (length old)); out = over old (lent c) })
       (record { number = numberOf (a (length new)); out = over new (lent c) })
 
 pub data AllMatch : List Call → List Became → List Seen → List Seen → Type 0 where

@@ -52,15 +52,15 @@ pub record Step : Type 0 where
 unfoldable pub gets : ℕ → Machine → Step
 gets code m = record { code = code; next = m }
 
--- An Activate from this level and side. Inactive: seconds not 1 to 86,400: 6; 16 open: 2, the code of `room`; else open, 0. Active,
+-- An Activate from this level and side. Inactive: seconds not 1 to 86,400: 6; 16 open: 2, the code `full`; else open, 0. Active,
 -- same level and side: seconds bad: 6; else restart, 4. Active, other MP: 7.
-unfoldable pub activate : (room seconds level side : ℕ) (tag : List ℕ) → Machine → Step
-activate room seconds level side tag (prohibited owed) = gets 0 (prohibited owed)
-activate room seconds level side tag (inactive owed) =
+unfoldable pub activate : (full seconds level side : ℕ) (tag : List ℕ) → Machine → Step
+activate full seconds level side tag (prohibited owed) = gets 0 (prohibited owed)
+activate full seconds level side tag (inactive owed) =
     cond (within 1 86400 seconds)
-    (cond (eqb room 0) (gets 0 (active level side (seconds * 1000) tag)) (gets room (inactive owed)))
+    (cond (eqb full 0) (gets 0 (active level side (seconds * 1000) tag)) (gets full (inactive owed)))
     (gets 6 (inactive owed))
-activate room seconds level side tag (active own-level own-side left own-tag) =
+activate full seconds level side tag (active own-level own-side left own-tag) =
     cond (eqb level own-level && eqb side own-side)
     (cond (within 1 86400 seconds)
     (gets 4 (active own-level own-side (seconds * 1000) own-tag))

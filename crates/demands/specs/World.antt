@@ -75,9 +75,9 @@ least test (suc n) = cond (ltb (least test n) n) (least test n) (cond (test n) n
 
 -- `keys` is any number above every flow and source as one number.
 module _ (keys : ℕ) where
-  -- May one more session open? 0, or the code of the reply: 16 open, 2.
-  unfoldable pub room : World → ℕ
-  room w = cond (ltb (counted (λ k. isActive (at k w)) keys) 16) 0 2
+  -- Is the unit full for one more session of this flow? 0, or the code of the reply: 16 open, 2, whatever the flow.
+  unfoldable pub fullFor : Flow → World → ℕ
+  fullFor flow w = cond (ltb (counted (λ k. isActive (at k w)) keys) 16) 0 2
 
   -- Notices leave in ascending flow, then source address: the least that owes one.
   unfoldable pub firstOwing : World → ℕ

@@ -11,7 +11,8 @@ use Rattle.machine.specs.declared.Session.{Session}
 use Rattle.machine.specs.Table.{Condition, prohibited, inactive, active, conditionNumber, conditionAt}
 use Rattle.machine.specs.Table.{Event, rqst-activate, rqst-deactivate, rqst-state, ingress-data, egress-data, mgmt-allow}
 use Rattle.machine.specs.Table.{mgmt-prohibit, timer-expiration, eventNumber, eventAt, actionOf, actionAt}
-use Rattle.machine.specs.Machine.{goodSeconds, secondsLeft, isOpen, closedBy, owed, lasting}
+use Rattle.machine.specs.Machine.{goodSeconds, secondsLeft, isOpen, owed, lasting}
+use Rattle.machine.specs.Management.{closedBy}
 use Rattle.machine.specs.Time.{ticked}
 
 pub seconds-good : (n : ℕ) → 1 ≤ n → n ≤ 86400 → goodSeconds n ≡ true

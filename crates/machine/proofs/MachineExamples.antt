@@ -26,7 +26,7 @@ session tag level side left =
       source = 0x0200000000AA;
       level = level;
       side = side;
-      count = 4;
+      taglen = 4;
       tag = tag;
       left = left;
       notice = 0;
@@ -48,8 +48,8 @@ answer code change = record { code = code; change = change }
 
 decides : Machine → Event → ℕ → ℕ → ℕ → ℕ → Decided
 unfolding decided admitted restarted refreshed closed answered sameMp goodSeconds lasting within conditionOf activity actionOf
-decides m event seconds room level side =
-    decided (actionOf (conditionOf true m) event) room seconds (session now level side 0) m
+decides m event seconds full level side =
+    decided (actionOf (conditionOf true m) event) full seconds (session now level side 0) m
 
 -- the machine; the request, its seconds, 0 or the code of a full table, the level and side of its MP; the answer
 abbrev answers : List (Machine × Event × ℕ × ℕ × ℕ × ℕ × Decided)
@@ -63,7 +63,7 @@ answers =
     ∷ (Inactive, rqst-activate, 0, 2, 4, cen, answer 6 Same)
     ∷ (Inactive, rqst-deactivate, 0, 0, 4, cen, answer 5 Same)
     ∷ (Inactive, rqst-state, 0, 0, 4, cen, answer 0 Same)
-    -- active, same level and side: a restart changes only the time, and needs no room
+    -- active, same level and side: a restart changes only the time, and needs no full
     ∷ (activated 4 cen, rqst-activate, 0, 0, 4, cen, answer 6 Same)
     ∷ (activated 4 cen, rqst-activate, 1, 0, 4, cen, answer 4 (Restarted (session first 4 cen 1000)))
     ∷ (activated 4 cen, rqst-activate, 86400, 2, 4, cen, answer 4 (Restarted (session first 4 cen 86400000)))
@@ -113,7 +113,9 @@ fates =
     -- inactive or prohibited
     (true, Inactive, false, 0, external, Forward)
     ∷ (true, Inactive, false, 0, cen, Forward)
+    ∷ (false, Inactive, false, 0, external, Forward)
     ∷ (false, Inactive, false, 0, cen, Forward)
+    ∷ (false, activated 4 cen, false, 0, external, Forward)
     ∷ (false, activated 4 cen, false, 0, cen, Forward)
     -- SOAM of the session's level or below
     ∷ (true, activated 4 cen, true, 4, cen, Forward)

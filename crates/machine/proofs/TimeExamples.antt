@@ -6,8 +6,9 @@ use Prim.Native.Nat.{ℕ}
 use Rattle.codec.specs.FrameSet.{cen}
 use Rattle.machine.specs.declared.Session.{Session}
 use Rattle.machine.specs.declared.Machine.the-variants.{Inactive, Active}
-use Rattle.machine.specs.Table.{actionOf}
-use Rattle.machine.specs.Machine.{isOpen, lasting, owed, closedBy, withdrawn, secondsLeft, statusOf}
+use Rattle.machine.specs.Table.{Event, active, mgmt-allow, mgmt-prohibit, actionOf}
+use Rattle.machine.specs.Machine.{isOpen, lasting, owed, secondsLeft, statusOf}
+use Rattle.machine.specs.Management.{closedBy, managedBy}
 use Rattle.machine.specs.Time.{elapsed, jumped, ticked}
 
 -- the last reading, the new one, the time elapsed, and did the clock jump
@@ -37,7 +38,7 @@ session left notice =
       source = 0x0200000000AA;
       level = 5;
       side = cen;
-      count = 4;
+      taglen = 4;
       tag = 0x81000014;
       left = left;
       notice = notice;
@@ -62,16 +63,19 @@ session-closes-when-its-time-is-over : map (λ row. (row .0, row .1, ticked (row
 unfolding ticked isOpen lasting closedBy owed actionOf
 session-closes-when-its-time-is-over = refl
 
--- the flow that is prohibited, the session before that, and after it
-abbrev prohibitions : List (ℕ × Session × Session)
-prohibitions =
-    (2, session 60000 0, session 0 9)
-    ∷ (1, session 60000 0, session 60000 0)
-    ∷ (2, session 0 8, session 0 8)
+-- what management does, the flow, the session before that, and after it
+abbrev managements : List (Event × ℕ × Session × Session)
+managements =
+    (mgmt-prohibit, 2, session 60000 0, session 0 9)
+    ∷ (mgmt-prohibit, 1, session 60000 0, session 60000 0)
+    ∷ (mgmt-prohibit, 2, session 0 8, session 0 8)
+    ∷ (mgmt-allow, 2, session 60000 0, session 60000 0)
+    ∷ (mgmt-allow, 2, session 0 8, session 0 8)
     ∷ []
 
-prohibit-closes-the-sessions-of-its-flow : map (λ row. (row .0, row .1, withdrawn (row .0) (row .1))) prohibitions ≡ prohibitions
-unfolding withdrawn isOpen closedBy owed actionOf
+prohibit-closes-the-sessions-of-its-flow :
+    map (λ row. (row .0, row .1, row .2, managedBy (actionOf active (row .0)) (row .1) (row .2))) managements ≡ managements
+unfolding managedBy isOpen closedBy owed actionOf
 prohibit-closes-the-sessions-of-its-flow = refl
 
 -- milliseconds left, and seconds

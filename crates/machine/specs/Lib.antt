@@ -1,3 +1,4 @@
 pub mod Table
 pub mod Machine
+pub mod Management
 pub mod Time

@@ -1,5 +1,5 @@
--- "Machine": what a request, a data frame and a prohibition do to the session of one machine.
-use mathlib.Core.Bool.{Bool, true, false, cond, _&&_, _||_}
+-- "Machine": what a request and a data frame do to the session of one machine.
+use mathlib.Core.Bool.{Bool, true, false, cond, _&&_}
 use Prim.Native.Nat.{ℕ, _+_, _*_, _/_, _^_}
 use lib.Dec.{eqb, leb}
 use Rattle.octets.specs.Lists.{within}
@@ -13,8 +13,8 @@ use Rattle.machine.specs.declared.Change.the-variants.{Same, Opened, Res
 use Rattle.machine.specs.declared.Decided.{Decided}
 use Rattle.machine.specs.declared.Fate.{Fate}
 use Rattle.machine.specs.declared.Fate.the-variants.{Forward, Drop, Loop}
-use Rattle.machine.specs.Table.{Condition, prohibited, inactive, active, Event, ingress-data, egress-data, mgmt-prohibit}
-use Rattle.machine.specs.Table.{actionOf, turn, admit, already, restart, close, lift, forbid, withdraw, expire}
+use Rattle.machine.specs.Table.{Condition, prohibited, inactive, active, Event, ingress-data, egress-data}
+use Rattle.machine.specs.Table.{forward, turn, admit, report, already, restart, close}
 
 -- the state of a machine, if its flow is allowed
 unfoldable pub activity : Machine → Condition
@@ -43,7 +43,7 @@ lasting ms s =
       source = s .source;
       level = s .level;
       side = s .side;
-      count = s .count;
+      taglen = s .taglen;
       tag = s .tag;
       left = ms;
       notice = s .notice;
@@ -57,7 +57,7 @@ owed code s =
       source = s .source;
       level = s .level;
       side = s .side;
-      count = s .count;
+      taglen = s .taglen;
       tag = s .tag;
       left = 0;
       notice = code;
@@ -71,11 +71,11 @@ goodSeconds seconds = within 1 86400 seconds
 unfoldable pub answered : ℕ → Decided
 answered code = record { code = code; change = Same }
 
--- Activate, inactive: seconds bad, 6; no room, its code; else open, 0. `room` is 0 when one more session may open.
+-- Activate, inactive: seconds bad, 6; a full unit, its code; else open, 0. `full` is 0 when one more session may open.
 unfoldable pub admitted : ℕ → ℕ → Session → Decided
-admitted room seconds new =
+admitted full seconds new =
     cond (goodSeconds seconds)
-    (cond (eqb room 0) (record { code = 0; change = Opened (lasting (seconds * 1000) new) }) (answered room))
+    (cond (eqb full 0) (record { code = 0; change = Opened (lasting (seconds * 1000) new) }) (answered full))
     (answered 6)
 
 -- does the request, which would open the session `new`, come from the level and side of session s?
@@ -99,14 +99,16 @@ unfoldable pub closed : Session → Machine → Decided
 closed new Inactive = answered 7
 closed new (Active s) = cond (sameMp new s) (record { code = 0; change = Closed }) (answered 7)
 
--- What a request's action does, on an allowed flow. `new` is the session that an Activate would open.
+-- What a request's action does, on an allowed flow. `new` is the session that an Activate would open. A number that is no
+-- request's action is answered 255, "any other error".
 unfoldable pub decided : ℕ → ℕ → ℕ → Session → Machine → Decided
-decided action room seconds new m =
-    cond (eqb action admit) (admitted room seconds new)
+decided action full seconds new m =
+    cond (eqb action admit) (admitted full seconds new)
     (cond (eqb action restart) (restarted seconds new m)
     (cond (eqb action already) (answered 5)
     (cond (eqb action close) (closed new m)
-    (answered 0))))
+    (cond (eqb action report) (answered 0)
+    (answered 255)))))
 
 -- the machine after that
 unfoldable pub after : Change → Machine → Machine
@@ -119,31 +121,19 @@ after Closed m = Inactive
 unfoldable pub passes : Bool → ℕ → Session → Bool
 passes soam level s = soam && leb level (s .level)
 
--- Active: that, forward; otherwise loop from the activating side, drop from the other.
+-- Active: that, forward; otherwise loop from the activating side, drop from the other. The table asks it of no other machine.
 unfoldable pub turned : Bool → ℕ → ℕ → Machine → Fate
-turned soam level side Inactive = Forward
+turned soam level side Inactive = Drop
 turned soam level side (Active s) =
     cond (passes soam level s) Forward (cond (eqb side (s .side)) Loop Drop)
 
--- What a data frame's action does.
+-- What a data frame's action does. A number that is none drops it.
 unfoldable pub fateOf : ℕ → Bool → ℕ → ℕ → Machine → Fate
-fateOf action soam level side m = cond (eqb action turn) (turned soam level side m) Forward
+fateOf action soam level side m =
+    cond (eqb action forward) Forward (cond (eqb action turn) (turned soam level side m) Drop)
 
 unfoldable pub dataEvent : ℕ → Event
 dataEvent side = cond (eqb side external) ingress-data egress-data
-
--- What the closing actions do to an open session.
-unfoldable pub closedBy : ℕ → Session → Session
-closedBy action s = cond (eqb action expire) (owed 8 s) (cond (eqb action withdraw) (owed 9 s) s)
-
--- Prohibit closes each of the flow's sessions.
-unfoldable pub withdrawn : ℕ → Session → Session
-withdrawn flow s = cond (isOpen s && eqb (s .flow) flow) (closedBy (actionOf active mgmt-prohibit) s) s
-
--- Is the flow allowed after an action?
-unfoldable pub allowedAfter : ℕ → Bool → Bool
-allowedAfter action allowed =
-    cond (eqb action lift) true (cond (eqb action forbid || eqb action withdraw) false allowed)
 
 -- seconds left, rounded up
 unfoldable pub secondsLeft : ℕ → ℕ

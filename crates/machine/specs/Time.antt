@@ -1,10 +1,13 @@
--- "Time": elapsed time, and a session as time passes.
+-- "Time": elapsed time, a session as time passes, and what is done to every session at once.
 use mathlib.Core.Bool.{Bool, cond}
 use Prim.Native.Nat.{ℕ, _+_, _-_, _%_, _^_}
 use lib.Dec.{leb}
 use Rattle.machine.specs.declared.Session.{Session}
+use Rattle.machine.specs.declared.Sweep.{Sweep}
+use Rattle.machine.specs.declared.Sweep.the-variants.{Ticked, Managed}
 use Rattle.machine.specs.Table.{active, timer-expiration, actionOf}
-use Rattle.machine.specs.Machine.{isOpen, lasting, closedBy}
+use Rattle.machine.specs.Machine.{isOpen, lasting}
+use Rattle.machine.specs.Management.{closedBy, managedBy}
 
 -- Elapsed is the new reading less the last, modulo 2^32.
 unfoldable pub elapsed : ℕ → ℕ → ℕ
@@ -20,3 +23,8 @@ ticked passed s =
     cond (isOpen s)
     (cond (leb (s .left) passed) (closedBy (actionOf active timer-expiration) s) (lasting (s .left - passed) s))
     s
+
+-- a session after what is done to all
+unfoldable pub swept : Sweep → Session → Session
+swept (Ticked passed) s = ticked passed s
+swept (Managed action flow) s = managedBy action flow s

@@ -3,12 +3,25 @@ use crate::Change;
 use crate::Decided;
 use crate::Machine;
 use crate::Session;
+use crate::actions::ADMIT;
+use crate::actions::ALREADY;
+use crate::actions::CLOSE;
+use crate::actions::REPORT;
+use crate::actions::RESTART;
+use crate::codes::ALREADY_ACTIVE;
+use crate::codes::ALREADY_INACTIVE;
+use crate::codes::NO_ERROR;
+use crate::codes::UNKNOWN_ERROR;
+use crate::codes::UNSUPPORTED;
+use crate::codes::WRONG_MP;
+use crate::sessions::SECOND;
 use crate::sessions::lasting;
-use crate::sessions::status_of;
-use codec::Status;
 ghost use mathlib.Core.Path.{_≡_};
 ghost use Prim.Native.Nat.{_*_, _<_};
-ghost use Rattle.machine.specs.Machine.{answered, admitted, sameMp, restarted, refreshed, closed, decided, after, statusOf};
+ghost use Rattle.machine.specs.Machine.{answered, admitted, sameMp, restarted, refreshed, closed, decided};
+
+// A session lasts from one second to so many.
+const MOST_SECONDS: u32 = 86400;
 
 // A failed request changes nothing.
 fn answered(code: u8) -> Decided
@@ -20,22 +33,22 @@ fn answered(code: u8) -> Decided
     }
 }
 
-// Activate at an inactive machine. `room` is 0 when one more session may open.
-fn admitted(room: u8, seconds: u32, new: Session) -> Decided
-    ensures { λ r. ⌜ r ≡ admitted room seconds new ⌝ }
+// Activate at an inactive machine. `full` is 0 when one more session may open.
+fn admitted(full: u8, seconds: u32, new: Session) -> Decided
+    ensures { λ r. ⌜ r ≡ admitted full seconds new ⌝ }
 {
     if seconds < 1 {
-        return answered(6);
+        return answered(UNSUPPORTED);
     }
-    if 86400 < seconds {
-        return answered(6);
+    if MOST_SECONDS < seconds {
+        return answered(UNSUPPORTED);
     }
-    if room != 0 {
-        return answered(room);
+    if full != 0 {
+        return answered(full);
     }
     Decided {
-        code: 0,
-        change: Change::Opened(lasting(seconds * 1000, new)),
+        code: NO_ERROR,
+        change: Change::Opened(lasting(seconds * SECOND, new)),
     }
 }
 
@@ -56,7 +69,7 @@ fn restarted(seconds: u32, new: Session, m: Machine) -> Decided
     ensures { λ r. ⌜ r ≡ restarted seconds new m ⌝ }
 {
     match m {
-        Machine::Inactive => answered(7),
+        Machine::Inactive => answered(WRONG_MP),
         Machine::Active(s) => refreshed(seconds, new, s),
     }
 }
@@ -66,17 +79,17 @@ fn refreshed(seconds: u32, new: Session, s: Session) -> Decided
 {
     if same_mp(new, s) {
         if seconds < 1 {
-            return answered(6);
+            return answered(UNSUPPORTED);
         }
-        if 86400 < seconds {
-            return answered(6);
+        if MOST_SECONDS < seconds {
+            return answered(UNSUPPORTED);
         }
         return Decided {
-            code: 4,
-            change: Change::Restarted(lasting(seconds * 1000, s)),
+            code: ALREADY_ACTIVE,
+            change: Change::Restarted(lasting(seconds * SECOND, s)),
         };
     }
-    answered(7)
+    answered(WRONG_MP)
 }
 
 // Deactivate at an active machine.
@@ -84,51 +97,35 @@ fn closed(new: Session, m: Machine) -> Decided
     ensures { λ r. ⌜ r ≡ closed new m ⌝ }
 {
     let Machine::Active(s) = m else {
-        return answered(7);
+        return answered(WRONG_MP);
     };
     if same_mp(new, s) {
         return Decided {
-            code: 0,
+            code: NO_ERROR,
             change: Change::Closed,
         };
     }
-    answered(7)
+    answered(WRONG_MP)
 }
 
 // The request's action carried out. `new` is the session that an Activate would open.
-pub fn decide(action: u8, room: u8, seconds: u32, new: Session, m: Machine) -> Decided
-    ensures { λ r. ⌜ r ≡ decided action room seconds new m ⌝ }
+pub fn decide(action: u8, full: u8, seconds: u32, new: Session, m: Machine) -> Decided
+    ensures { λ r. ⌜ r ≡ decided action full seconds new m ⌝ }
 {
-    if action == 3 {
-        return admitted(room, seconds, new);
+    if action == ADMIT {
+        return admitted(full, seconds, new);
     }
-    if action == 6 {
+    if action == RESTART {
         return restarted(seconds, new, m);
     }
-    if action == 5 {
-        return answered(5);
+    if action == ALREADY {
+        return answered(ALREADY_INACTIVE);
     }
-    if action == 7 {
+    if action == CLOSE {
         return closed(new, m);
     }
-    answered(0)
-}
-
-// The machine after a change.
-pub fn after(change: Change, m: Machine) -> Machine
-    ensures { λ r. ⌜ r ≡ after change m ⌝ }
-{
-    match change {
-        Change::Same => m,
-        Change::Opened(s) => Machine::Active(s),
-        Change::Restarted(s) => Machine::Active(s),
-        Change::Closed => Machine::Inactive,
+    if action == REPORT {
+        return answered(NO_ERROR);
     }
-}
-
-// What a reply says of the machine after a change.
-pub fn status_after(change: Change, m: Machine) -> Status
-    ensures { λ r. ⌜ r ≡ statusOf (after change m) ⌝ }
-{
-    status_of(after(change, m))
+    answered(UNKNOWN_ERROR)
 }

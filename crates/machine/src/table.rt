@@ -1,16 +1,57 @@
 // The eight events in three states.
 use crate::Machine;
+use crate::actions::ADMIT;
+use crate::actions::ALREADY;
+use crate::actions::CLOSE;
+use crate::actions::EXPIRE;
+use crate::actions::FORBID;
+use crate::actions::FORWARD;
+use crate::actions::LIFT;
+use crate::actions::NOTHING;
+use crate::actions::REPORT;
+use crate::actions::RESTART;
+use crate::actions::TURN;
+use crate::actions::WITHDRAW;
+use crate::events::ACTIVE;
+use crate::events::INACTIVE;
+use crate::events::PROHIBITED;
 ghost use mathlib.Core.Path.{_≡_};
 ghost use Prim.Native.Nat.{_<_};
 ghost use Rattle.machine.specs.Table.{actionAt, conditionNumber};
-ghost use Rattle.machine.specs.Machine.{activity, conditionOf, allowedAfter};
+ghost use Rattle.machine.specs.Machine.{activity, conditionOf};
 
-// State by event, as MEF 46 7.1.5 has them: prohibited, inactive, active; activate, deactivate, state, ingress data, egress data,
-// allow, prohibit, timer expiration. An entry is the number of the action that the step carries out.
+// State by event, as MEF 46 7.1.5 has them: the action that the step carries out.
 pub const ACTION: [[u8; 8]; 3] = [
-    [0, 0, 0, 1, 1, 8, 0, 0],
-    [3, 5, 4, 1, 1, 0, 9, 0],
-    [6, 7, 4, 2, 2, 0, 10, 11],
+    [
+        NOTHING, // prohibited, activate
+        NOTHING, // prohibited, deactivate
+        NOTHING, // prohibited, state
+        FORWARD, // prohibited, ingress data
+        FORWARD, // prohibited, egress data
+        LIFT, // prohibited, allow
+        NOTHING, // prohibited, prohibit
+        NOTHING, // prohibited, timer expiration
+    ],
+    [
+        ADMIT, // inactive, activate
+        ALREADY, // inactive, deactivate
+        REPORT, // inactive, state
+        FORWARD, // inactive, ingress data
+        FORWARD, // inactive, egress data
+        NOTHING, // inactive, allow
+        FORBID, // inactive, prohibit
+        NOTHING, // inactive, timer expiration
+    ],
+    [
+        RESTART, // active, activate
+        CLOSE, // active, deactivate
+        REPORT, // active, state
+        TURN, // active, ingress data
+        TURN, // active, egress data
+        NOTHING, // active, allow
+        WITHDRAW, // active, prohibit
+        EXPIRE, // active, timer expiration
+    ],
 ];
 
 pub fn action(condition: usize, event: usize) -> u8
@@ -25,8 +66,8 @@ fn row_of(m: Machine) -> usize
     ensures { λ r. ⌜ (r ≡ conditionNumber (activity m)) × (r < 3) ⌝ }
 {
     match m {
-        Machine::Inactive => 1,
-        Machine::Active(_) => 2,
+        Machine::Inactive => INACTIVE,
+        Machine::Active(_) => ACTIVE,
     }
 }
 
@@ -37,21 +78,5 @@ pub fn condition_of(allowed: bool, m: Machine) -> usize
     if allowed {
         return row_of(m);
     }
-    0
-}
-
-// Is the flow allowed after an action?
-pub fn allowed_after(action: u8, allowed: bool) -> bool
-    ensures { λ r. ⌜ r ≡ allowedAfter action allowed ⌝ }
-{
-    if action == 8 {
-        return true;
-    }
-    if action == 9 {
-        return false;
-    }
-    if action == 10 {
-        return false;
-    }
-    allowed
+    PROHIBITED
 }

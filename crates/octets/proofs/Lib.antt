@@ -8,6 +8,6 @@ pub mod ListLaws
 pub mod Ordered
 pub mod PutLaws
 pub mod Few
-pub mod Moving
+pub mod MoveLaws
 mod Examples
 pub mod LowLaws

@@ -1,14 +1,15 @@
-// Numbers of 2, 4, 6 and 8 octets with the lowest octet first, read at a place of a slice, and written at a place.
+// Numbers of 1 to 8 octets with the lowest octet first, read at a place of a slice, and written at a place.
 use super::run::put_at;
 ghost use mathlib.Core.Path.{_≡_};
 ghost use Prim.Native.Nat.{_+_, _<_, _≤_, _^_};
 ghost use lib.ListN.{length, drop};
 ghost use Rattle.octets.specs.Octets.{lowNumber, lowOctets, splice};
 
-pub fn wide(x: u8) -> u32
-    ensures { λ r. ⌜ (r ≡ x) × (r < 256) ⌝ }
+fn low1(s: &[u8], at: usize) -> u32
+    requires { ⌜ at + 1 ≤ length (now s) ⌝ }
+    ensures { λ r. ⌜ (r ≡ lowNumber 1 (drop at (now (s .entry)))) × (r < 256) ⌝ }
 {
-    x as u32
+    s[at] as u32
 }
 
 pub fn wider(x: u32) -> u64
@@ -21,7 +22,7 @@ pub fn low_pair(s: &[u8], at: usize) -> u32
     requires { ⌜ at + 2 ≤ length (now s) ⌝ }
     ensures { λ r. ⌜ (r ≡ lowNumber 2 (drop at (now (s .entry)))) × (r < 2 ^ 16) ⌝ }
 {
-    wide(s[at]) + wide(s[at + 1]) * 256
+    low1(s, at) + low1(s, at + 1) * 256
 }
 
 pub fn low2(s: &[u8], at: usize) -> u16

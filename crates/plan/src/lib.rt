@@ -1,4 +1,22 @@
-// The plan: its records.
+// The plan: its records, and rules of it that several rooms test.
+mod rules;
+mod words;
+
+pub use rules::faces;
+pub use rules::good_address;
+pub use rules::set_key;
+pub use words::DOWN;
+pub use words::FLOWS;
+pub use words::HIGHEST_FLOW;
+pub use words::HIGHEST_LEVEL;
+pub use words::HIGHEST_PORT;
+pub use words::HIGHEST_VID;
+pub use words::LEVELS;
+pub use words::LONGEST_TEXT;
+pub use words::MIP;
+pub use words::MOST_MPS;
+pub use words::PORTS;
+pub use words::UP;
 
 // A port: its kind is 1 UNI, 2 ENNI.
 pub struct Port {
@@ -14,12 +32,12 @@ pub struct Flow {
     pub port: u8,
     pub kind: u8,
     pub vid: u16,
-    pub mps: [u8; 8],
+    pub mps: [u8; LEVELS],
 }
 
 // A plan by value: ports in ascending number, flows in ascending port and frame set. A row with number 0 is empty, and so is every row
 // behind it.
 pub struct Records {
-    pub ports: [Port; 8],
-    pub flows: [Flow; 32],
+    pub ports: [Port; PORTS],
+    pub flows: [Flow; FLOWS],
 }

@@ -35,35 +35,34 @@ by-test false t f = f refl
 abbrev readAddress : List ℕ → Hex
 readAddress f = cond (isAddress f) (Address (addressIn f)) NoAddress
 
+-- a field that is read if it passes a test
+module _ {D : Type 0} (some : ℕ → D) (none : D) where
+  is-some : (b : Bool) (x : ℕ) {d : D} {n : ℕ} → (some x ≡ some n → n ≡ x) → (none ≡ some n → ⊥)
+      → d ≡ cond b (some x) none → d ≡ some n → (b ≡ true) × (n ≡ x)
+  is-some true x inside apart e h = (refl, inside (sym e ∙ h))
+  is-some false x inside apart e h = absurd (apart (sym e ∙ h))
+
+  is-none : (b : Bool) (x : ℕ) {d : D} → (some x ≡ none → ⊥) → d ≡ cond b (some x) none → d ≡ none → b ≡ false
+  is-none true x apart e h = absurd (apart (sym e ∙ h))
+  is-none false x apart e h = refl
+
 module _ (f : List ℕ) {d : Digits} (e : d ≡ readNumber f) where
   a-number : {n : ℕ} → d ≡ Number n → (isNumber f ≡ true) × (n ≡ capped (numberIn f))
-  a-number {n} h = go (isNumber f) (sym e ∙ h)
-    where
-      go : (b : Bool) → cond b (Number (capped (numberIn f))) NoNumber ≡ Number n → (b ≡ true) × (n ≡ capped (numberIn f))
-      go true t = (refl, cc)
-      go false t = let z : _≡_ {A = ℕ} 0 1 = cc in absurd (omega arith)
+  a-number h =
+      is-some Number NoNumber (isNumber f) (capped (numberIn f)) (λ t. cc)
+      (λ t. let z : _≡_ {A = ℕ} 0 1 = cc in omega arith) e h
 
   no-number : d ≡ NoNumber → isNumber f ≡ false
-  no-number h = go (isNumber f) (sym e ∙ h)
-    where
-      go : (b : Bool) → cond b (Number (capped (numberIn f))) NoNumber ≡ NoNumber → b ≡ false
-      go true t = let z : _≡_ {A = ℕ} 0 1 = cc in absurd (omega arith)
-      go false t = refl
+  no-number h =
+      is-none Number NoNumber (isNumber f) (capped (numberIn f)) (λ t. let z : _≡_ {A = ℕ} 0 1 = cc in omega arith) e h
 
 module _ (f : List ℕ) {d : Hex} (e : d ≡ readAddress f) where
   an-address : {n : ℕ} → d ≡ Address n → (isAddress f ≡ true) × (n ≡ addressIn f)
-  an-address {n} h = go (isAddress f) (sym e ∙ h)
-    where
-      go : (b : Bool) → cond b (Address (addressIn f)) NoAddress ≡ Address n → (b ≡ true) × (n ≡ addressIn f)
-      go true t = (refl, cc)
-      go false t = let z : _≡_ {A = ℕ} 0 1 = cc in absurd (omega arith)
+  an-address h =
+      is-some Address NoAddress (isAddress f) (addressIn f) (λ t. cc) (λ t. let z : _≡_ {A = ℕ} 0 1 = cc in omega arith) e h
 
   no-address : d ≡ NoAddress → isAddress f ≡ false
-  no-address h = go (isAddress f) (sym e ∙ h)
-    where
-      go : (b : Bool) → cond b (Address (addressIn f)) NoAddress ≡ NoAddress → b ≡ false
-      go true t = let z : _≡_ {A = ℕ} 0 1 = cc in absurd (omega arith)
-      go false t = refl
+  no-address h = is-none Address NoAddress (isAddress f) (addressIn f) (λ t. let z : _≡_ {A = ℕ} 0 1 = cc in omega arith) e h
 
 -- the word's place among those listed, which is 0 where it is not
 module _ (words : List (List ℕ)) (f : List ℕ) {k : ℕ} (e : k ≡ listed words f) where

@@ -1,6 +1,6 @@
-mod Spelling
+mod Digits
 mod Numbers
 pub mod Parts
-mod Cutting
+mod Cuts
 mod ByFields
 mod Words

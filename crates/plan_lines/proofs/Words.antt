@@ -10,22 +10,19 @@ use Rattle.octets.specs.Octets.{same}
 use Rattle.octets.specs.Text.{text}
 use Rattle.plan.specs.Line.{field, asPort, asFlow, asMp, byWord}
 use Rattle.plan_lines.specs.CappedLine.{said}
+use Rattle.plan_lines.specs.Fields.{asWord}
+use Rattle.plan_lines.specs.declared.lines.Word.{Word}
+use Rattle.plan_lines.specs.declared.lines.Word.the-variants.{Port, Flow, Mp}
 use Rattle.plan_lines.specs.declared.Said.the-variants.{Unreadable}
 use Rattle.plan_lines.proofs.ByFields.{by-test}
 
--- Behind the word, a port and an MP have three fields, a flow has four.
-module _ (fields : List (List ℕ)) (n : length fields ≡ 3 → ⊥) where
-  pub no-port : Unreadable ≡ said (asPort ([] ∷ fields))
-  unfolding asPort said
-  no-port = simp (ne-eqb (length {A = List ℕ} ([] ∷ fields)) 4 (λ z. n (omega arith)))
-
-  pub no-mp : Unreadable ≡ said (asMp ([] ∷ fields))
-  unfolding asMp said
-  no-mp = simp (ne-eqb (length {A = List ℕ} ([] ∷ fields)) 4 (λ z. n (omega arith)))
-
-  pub no-flow : (number : List ℕ) → Unreadable ≡ said (asFlow ([] ∷ number ∷ fields))
-  unfolding asFlow said
-  no-flow number = simp (ne-eqb (length {A = List ℕ} ([] ∷ number ∷ fields)) 5 (λ z. n (omega arith)))
+-- A line has three fields behind its word, or behind a flow's number.
+pub no-line : (word : Word) (before : List ℕ) (fields : List (List ℕ)) → (length fields ≡ 3 → ⊥)
+    → Unreadable ≡ said (asWord word before fields)
+unfolding asWord asPort asFlow asMp said
+no-line Port before fields n = simp (ne-eqb (length {A = List ℕ} (before ∷ fields)) 4 (λ z. n (omega arith)))
+no-line Flow before fields n = simp (ne-eqb (length {A = List ℕ} ([] ∷ before ∷ fields)) 5 (λ z. n (omega arith)))
+no-line Mp before fields n = simp (ne-eqb (length {A = List ℕ} (before ∷ fields)) 4 (λ z. n (omega arith)))
 
 pub flow-alone : (number : List ℕ) → Unreadable ≡ said (asFlow ([] ∷ number ∷ []))
 unfolding asFlow said
@@ -40,8 +37,8 @@ module _ (word : List ℕ) where
       (λ f. by-test (same word (text "mp")) (λ m. simp (p, f, m)) (λ m. simp (p, f, m))))
 
   module _ (fields : List (List ℕ)) where
-    pub word-port : same word (text "port") ≡ true → said (asPort ([] ∷ fields)) ≡ said (byWord (word ∷ fields))
-    unfolding byWord field asPort
+    pub word-port : same word (text "port") ≡ true → said (asWord Port word fields) ≡ said (byWord (word ∷ fields))
+    unfolding byWord field asWord
     word-port p = simp p
 
     module _ (p : same word (text "port") ≡ false) where
@@ -50,8 +47,8 @@ module _ (word : List ℕ) where
       word-flow f = simp (p, f)
 
       module _ (f : same word (text "flow") ≡ false) where
-        pub word-mp : same word (text "mp") ≡ true → said (asMp ([] ∷ fields)) ≡ said (byWord (word ∷ fields))
-        unfolding byWord field asMp
+        pub word-mp : same word (text "mp") ≡ true → said (asWord Mp word fields) ≡ said (byWord (word ∷ fields))
+        unfolding byWord field asWord
         word-mp m = simp (p, f, m)
 
         pub word-none : same word (text "mp") ≡ false → Unreadable ≡ said (byWord (word ∷ fields))

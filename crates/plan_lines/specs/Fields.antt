@@ -6,7 +6,7 @@ use Prim.Native.Nat.{ℕ, _+_, _-_, _<_}
 use lib.ListN.{length, take, drop}
 use Rattle.octets.specs.Lists.{within, every}
 use Rattle.octets.specs.Text.{digit}
-use Rattle.plan.specs.Line.{tab, parted, isDigit, spelled}
+use Rattle.plan.specs.Line.{Line, tab, parted, isDigit, spelled, asPort, asFlow, asMp}
 use Rattle.plan_lines.specs.CappedLine.{capped}
 use Rattle.plan_lines.specs.declared.fields.Digits.{Digits}
 use Rattle.plan_lines.specs.declared.fields.Digits.the-variants.{NoNumber, Number}
@@ -14,6 +14,8 @@ use Rattle.plan_lines.specs.declared.fields.Hex.{Hex}
 use Rattle.plan_lines.specs.declared.fields.Hex.the-variants.{NoAddress, Address}
 use Rattle.plan_lines.specs.declared.lines.Cuts.{Cuts}
 use Rattle.plan_lines.specs.declared.lines.Cuts.the-variants.{Three, Other}
+use Rattle.plan_lines.specs.declared.lines.Word.{Word}
+use Rattle.plan_lines.specs.declared.lines.Word.the-variants.{Port, Flow, Mp}
 
 unfoldable pub isHex : ℕ → Bool
 isHex x = isDigit x || within 97 102 x
@@ -28,6 +30,12 @@ digitsOn so l = cond (every isDigit l) (Number (capped (spelled 10 so l))) NoNum
 
 unfoldable pub hexOn : ℕ → List ℕ → Hex
 hexOn so l = cond (every isHex l) (Address (spelled 16 so l)) NoAddress
+
+-- A line of a word by the field before its last three, which is the word or a flow's number, and by those three.
+unfoldable pub asWord : Word → List ℕ → List (List ℕ) → Line
+asWord Port before fields = asPort (before ∷ fields)
+asWord Flow before fields = asFlow ([] ∷ before ∷ fields)
+asWord Mp before fields = asMp (before ∷ fields)
 
 -- Three fields by the places of the two tabs between them, or any other count of fields.
 abbrev pub CutAs : List ℕ → Cuts → Type 0

@@ -1,7 +1,10 @@
 // The fields of a line: where they end, numbers, addresses, words.
+use codec::ENNI;
+use codec::UNI;
 use octets::same_octets;
 ghost use mathlib.Core.Path.{_≡_};
 ghost use mathlib.Core.Bool.{cond};
+ghost use mathlib.Core.List.{[], _∷_};
 ghost use Prim.Native.Nat.{_≤_};
 ghost use lib.ListN.{length, drop};
 ghost use Rattle.plan.specs.Line.{isNumber, isAddress, numberIn, addressIn, listed, portKinds, flowKinds, mpKinds};
@@ -9,6 +12,16 @@ ghost use Rattle.plan_lines.specs.CappedLine.{endOf, capped};
 ghost use Rattle.plan_lines.specs.Fields.{valueOf, digitsOn, hexOn};
 ghost use Rattle.plan_lines.specs.declared.fields.Digits.the-variants.{NoNumber, Number};
 ghost use Rattle.plan_lines.specs.declared.fields.Hex.the-variants.{NoAddress, Address};
+
+// What an octet counts that is no hexadecimal digit.
+const NO_DIGIT: u32 = 16;
+
+// What is taken from a letter: `a` counts 10.
+const BELOW_LETTERS: u8 = 87;
+
+const HIGHEST_HELD: u32 = 9999;
+
+const ADDRESS_DIGITS: usize = 12;
 
 pub enum Digits {
     NoNumber,
@@ -39,27 +52,27 @@ pub fn end_of(s: &[u8], from: usize, by: u8) -> usize
 fn value_of(x: u8) -> u32
     ensures { λ r. ⌜ r ≡ valueOf x ⌝ }
 {
-    if x < 48 {
-        return 16;
+    if x < b'0' {
+        return NO_DIGIT;
     }
-    if x <= 57 {
-        return (x - 48) as u32;
+    if x <= b'9' {
+        return (x - b'0') as u32;
     }
-    if x < 97 {
-        return 16;
+    if x < b'a' {
+        return NO_DIGIT;
     }
-    if x <= 102 {
-        return (x - 87) as u32;
+    if x <= b'f' {
+        return (x - BELOW_LETTERS) as u32;
     }
-    16
+    NO_DIGIT
 }
 
 // A number as it is held: at most 9,999.
 fn cap(x: u32) -> u32
     ensures { λ r. ⌜ r ≡ capped x ⌝ }
 {
-    if 9999 < x {
-        return 9999;
+    if HIGHEST_HELD < x {
+        return HIGHEST_HELD;
     }
     x
 }
@@ -88,7 +101,7 @@ pub fn number_of(f: &[u8]) -> Digits
     if f.len() == 0 {
         return Digits::NoNumber;
     }
-    if f[0] == 48 {
+    if f[0] == b'0' {
         if f.len() == 1 {
             return Digits::Number(0);
         }
@@ -106,7 +119,7 @@ fn hex_of(f: &[u8]) -> Hex
     let mut i = 0;
     while i < f.len() {
         let d = value_of(f[i]);
-        if 16 <= d {
+        if NO_DIGIT <= d {
             return Hex::NoAddress;
         }
         so = so * 16 + d as u64;
@@ -119,7 +132,7 @@ fn hex_of(f: &[u8]) -> Hex
 pub fn address_of(f: &[u8]) -> Hex
     ensures { λ r. ⌜ r ≡ cond (isAddress (now (f .entry))) (Address (addressIn (now (f .entry)))) NoAddress ⌝ }
 {
-    if f.len() != 12 {
+    if f.len() != ADDRESS_DIGITS {
         return Hex::NoAddress;
     }
     hex_of(f)
@@ -129,10 +142,26 @@ pub fn port_kind(f: &[u8]) -> u8
     ensures { λ r. ⌜ r ≡ listed portKinds (now (f .entry)) ⌝ }
 {
     if same_octets(b"uni", f) {
-        return 1;
+        return UNI;
     }
     if same_octets(b"enni", f) {
+        return ENNI;
+    }
+    0
+}
+
+// The place of a word among three, from 1; 0 where it is none of them.
+fn place_among(one: &[u8], two: &[u8], three: &[u8], f: &[u8]) -> u8
+    ensures { λ r. ⌜ r ≡ listed (now (one .entry) ∷ now (two .entry) ∷ now (three .entry) ∷ []) (now (f .entry)) ⌝ }
+{
+    if same_octets(one, f) {
+        return 1;
+    }
+    if same_octets(two, f) {
         return 2;
+    }
+    if same_octets(three, f) {
+        return 3;
     }
     0
 }
@@ -140,29 +169,11 @@ pub fn port_kind(f: &[u8]) -> u8
 pub fn flow_kind(f: &[u8]) -> u8
     ensures { λ r. ⌜ r ≡ listed flowKinds (now (f .entry)) ⌝ }
 {
-    if same_octets(b"u", f) {
-        return 1;
-    }
-    if same_octets(b"c", f) {
-        return 2;
-    }
-    if same_octets(b"s", f) {
-        return 3;
-    }
-    0
+    place_among(b"u", b"c", b"s", f)
 }
 
 pub fn mp_kind(f: &[u8]) -> u8
     ensures { λ r. ⌜ r ≡ listed mpKinds (now (f .entry)) ⌝ }
 {
-    if same_octets(b"up", f) {
-        return 1;
-    }
-    if same_octets(b"down", f) {
-        return 2;
-    }
-    if same_octets(b"mip", f) {
-        return 3;
-    }
-    0
+    place_among(b"up", b"down", b"mip", f)
 }

@@ -1,5 +1,6 @@
 // One line of a plan's text.
 use crate::Said;
+use crate::TAB;
 use crate::fields::Digits;
 use crate::fields::Hex;
 use crate::fields::address_of;
@@ -13,7 +14,7 @@ ghost use mathlib.Core.Path.{_≡_};
 ghost use mathlib.Core.List.{[], _∷_};
 ghost use Rattle.plan.specs.Line.{tab, parted, asPort, asFlow, asMp, byWord, lineOf};
 ghost use Rattle.plan_lines.specs.CappedLine.{said};
-ghost use Rattle.plan_lines.specs.Fields.{CutAs};
+ghost use Rattle.plan_lines.specs.Fields.{asWord, CutAs};
 
 // The places of the two tabs between three fields, or any other count of fields.
 enum Cuts {
@@ -21,18 +22,25 @@ enum Cuts {
     Other,
 }
 
+// What a line speaks of, by its word.
+enum Word {
+    Port,
+    Flow,
+    Mp,
+}
+
 fn cuts_of(s: &[u8]) -> Cuts
     ensures { λ r. ⌜ CutAs (now (s .entry)) r ⌝ }
 {
-    let one = end_of(s, 0, 9);
+    let one = end_of(s, 0, TAB);
     if one == s.len() {
         return Cuts::Other;
     }
-    let two = end_of(s, one + 1, 9);
+    let two = end_of(s, one + 1, TAB);
     if two == s.len() {
         return Cuts::Other;
     }
-    if end_of(s, two + 1, 9) == s.len() {
+    if end_of(s, two + 1, TAB) == s.len() {
         return Cuts::Three(one, two);
     }
     Cuts::Other
@@ -91,32 +99,26 @@ fn mp_line(flow: &[u8], kind: &[u8], level: &[u8]) -> Said
     }
 }
 
-// A line of each kind, by what stands behind the first tab.
-fn port_of(rest: &[u8]) -> Said
-    ensures { λ r. ⌜ r ≡ said (asPort ([] ∷ parted tab (now (rest .entry)))) ⌝ }
+// A line by its word, its last three fields, and the one before them, which is the word or a flow's number.
+fn by_fields(word: Word, before: &[u8], one: &[u8], two: &[u8], three: &[u8]) -> Said
+    ensures { λ r. ⌜ r
+        ≡ said (asWord word (now (before .entry)) (now (one .entry) ∷ now (two .entry) ∷ now (three .entry) ∷ [])) ⌝ }
 {
-    match cuts_of(rest) {
-        Cuts::Three(one, two) => port_line(&rest[0..one], &rest[one + 1..two], &rest[two + 1..]),
-        Cuts::Other => Said::Unreadable,
+    match word {
+        Word::Port => port_line(one, two, three),
+        Word::Flow => flow_line(before, one, two, three),
+        Word::Mp => mp_line(one, two, three),
     }
 }
 
-fn mp_of(rest: &[u8]) -> Said
-    ensures { λ r. ⌜ r ≡ said (asMp ([] ∷ parted tab (now (rest .entry)))) ⌝ }
+// The same, by what stands behind the tab after the one before them.
+fn behind(word: Word, before: &[u8], rest: &[u8]) -> Said
+    ensures { λ r. ⌜ r ≡ said (asWord word (now (before .entry)) (parted tab (now (rest .entry)))) ⌝ }
 {
     match cuts_of(rest) {
-        Cuts::Three(one, two) => mp_line(&rest[0..one], &rest[one + 1..two], &rest[two + 1..]),
-        Cuts::Other => Said::Unreadable,
-    }
-}
-
-// A flow's line, by its number and what stands behind the tab that follows.
-fn numbered_flow(number: &[u8], rest: &[u8]) -> Said
-    ensures { λ r. ⌜ r ≡ said (asFlow ([] ∷ now (number .entry) ∷ parted tab (now (rest .entry)))) ⌝ }
-{
-    match cuts_of(rest) {
-        Cuts::Three(one, two) => flow_line(
-            number,
+        Cuts::Three(one, two) => by_fields(
+            word,
+            before,
             &rest[0..one],
             &rest[one + 1..two],
             &rest[two + 1..],
@@ -128,11 +130,11 @@ fn numbered_flow(number: &[u8], rest: &[u8]) -> Said
 fn flow_of(rest: &[u8]) -> Said
     ensures { λ r. ⌜ r ≡ said (asFlow ([] ∷ parted tab (now (rest .entry)))) ⌝ }
 {
-    let end = end_of(rest, 0, 9);
+    let end = end_of(rest, 0, TAB);
     if end == rest.len() {
         return Said::Unreadable;
     }
-    numbered_flow(&rest[0..end], &rest[end + 1..])
+    behind(Word::Flow, &rest[0..end], &rest[end + 1..])
 }
 
 // A line by its word and what stands behind the first tab.
@@ -140,13 +142,13 @@ fn worded(word: &[u8], rest: &[u8]) -> Said
     ensures { λ r. ⌜ r ≡ said (byWord (now (word .entry) ∷ parted tab (now (rest .entry)))) ⌝ }
 {
     if same_octets(word, b"port") {
-        return port_of(rest);
+        return behind(Word::Port, word, rest);
     }
     if same_octets(word, b"flow") {
         return flow_of(rest);
     }
     if same_octets(word, b"mp") {
-        return mp_of(rest);
+        return behind(Word::Mp, word, rest);
     }
     Said::Unreadable
 }
@@ -154,7 +156,7 @@ fn worded(word: &[u8], rest: &[u8]) -> Said
 pub fn line_of(line: &[u8]) -> Said
     ensures { λ r. ⌜ r ≡ said (lineOf (now (line .entry))) ⌝ }
 {
-    let end = end_of(line, 0, 9);
+    let end = end_of(line, 0, TAB);
     if end == line.len() {
         return Said::Unreadable;
     }

@@ -1,5 +1,6 @@
 // A record added to those held, in its place.
 use plan::Flow;
+use plan::LEVELS;
 use plan::Port;
 use plan::Records;
 use plan_lines::Said;
@@ -42,7 +43,7 @@ fn with_flow(r: Records, number: u32, port: u32, kind: u8, vid: u32) -> Records
         port: port as u8,
         kind: kind,
         vid: vid as u16,
-        mps: [0; 8],
+        mps: [0; LEVELS],
     };
     let rows = flow_put(flows, flow);
     let ports = r.ports;

@@ -1,4 +1,14 @@
 // What is in range: numbers, addresses, VIDs, kinds.
+use codec::C_TAGGED;
+use codec::ENNI;
+use codec::S_TAGGED;
+use codec::UNI;
+use codec::UNTAGGED;
+use plan::HIGHEST_FLOW;
+use plan::HIGHEST_LEVEL;
+use plan::HIGHEST_PORT;
+use plan::HIGHEST_VID;
+use plan::good_address;
 ghost use mathlib.Core.Path.{_≡_};
 ghost use mathlib.Core.Bool.{not, _||_};
 ghost use Rattle.octets.specs.Lists.{within};
@@ -13,36 +23,27 @@ fn in_range(low: u32, high: u32, x: u32) -> bool
     x <= high
 }
 
-fn good_address(address: u64) -> bool
-    ensures { λ r. ⌜ r ≡ goodAddress address ⌝ }
-{
-    if codec::is_group(address) {
-        return false;
-    }
-    address != 0
-}
-
 fn good_vid(kind: u8, vid: u32) -> bool
     ensures { λ r. ⌜ r ≡ goodVid kind vid ⌝ }
 {
-    if kind == 1 {
+    if kind == UNTAGGED {
         return vid == 0;
     }
-    in_range(1, 4094, vid)
+    in_range(1, HIGHEST_VID, vid)
 }
 
 // Can a port of this kind have flows of that kind?
 pub fn good_kind(kind: u8, port: u8) -> bool
     ensures { λ r. ⌜ r ≡ goodKind kind port ⌝ }
 {
-    if kind == 1 {
+    if kind == UNTAGGED {
         return true;
     }
-    if kind == 2 {
-        return port == 1;
+    if kind == C_TAGGED {
+        return port == UNI;
     }
-    if kind == 3 {
-        return port == 2;
+    if kind == S_TAGGED {
+        return port == ENNI;
     }
     false
 }
@@ -51,7 +52,7 @@ pub fn good_kind(kind: u8, port: u8) -> bool
 pub fn port_out(number: u32, address: u64) -> bool
     ensures { λ r. ⌜ r ≡ (not (within 1 8 number) || not (goodAddress address)) ⌝ }
 {
-    if !in_range(1, 8, number) {
+    if !in_range(1, HIGHEST_PORT, number) {
         return true;
     }
     !good_address(address)
@@ -61,10 +62,10 @@ pub fn port_out(number: u32, address: u64) -> bool
 pub fn flow_out(number: u32, port: u32, kind: u8, vid: u32) -> bool
     ensures { λ r. ⌜ r ≡ (not (within 1 32 number) || not (within 1 8 port) || not (goodVid kind vid)) ⌝ }
 {
-    if !in_range(1, 32, number) {
+    if !in_range(1, HIGHEST_FLOW, number) {
         return true;
     }
-    if !in_range(1, 8, port) {
+    if !in_range(1, HIGHEST_PORT, port) {
         return true;
     }
     !good_vid(kind, vid)
@@ -74,8 +75,8 @@ pub fn flow_out(number: u32, port: u32, kind: u8, vid: u32) -> bool
 pub fn mp_out(flow: u32, level: u32) -> bool
     ensures { λ r. ⌜ r ≡ (not (within 1 32 flow) || not (within 0 7 level)) ⌝ }
 {
-    if !in_range(1, 32, flow) {
+    if !in_range(1, HIGHEST_FLOW, flow) {
         return true;
     }
-    !in_range(0, 7, level)
+    !in_range(0, HIGHEST_LEVEL, level)
 }

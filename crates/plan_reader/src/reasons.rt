@@ -1,11 +1,22 @@
 // The reason of a line's fault, the first that applies; 0 where none does.
+use crate::NO_FAULT;
+use crate::OUT_OF_RANGE;
+use crate::REPEATED;
+use crate::TOO_MANY_MPS;
+use crate::UNNAMED;
+use crate::UNREADABLE;
 use crate::ranges::flow_out;
 use crate::ranges::good_kind;
 use crate::ranges::mp_out;
 use crate::ranges::port_out;
+use plan::FLOWS;
 use plan::Flow;
+use plan::LEVELS;
+use plan::MOST_MPS;
+use plan::PORTS;
 use plan::Port;
 use plan::Records;
+use plan::set_key;
 use plan_lines::Said;
 use plan_records::address_held;
 use plan_records::flow_numbered;
@@ -24,7 +35,7 @@ ghost use Rattle.plan.specs.Records.{heldPorts, heldFlows, planOf};
 ghost use Rattle.plan_reader.specs.ReadPlan.{saidReason};
 
 // Is a port there with this number or this address?
-fn port_again(ports: [Port; 8], number: u32, address: u64) -> bool
+fn port_again(ports: [Port; PORTS], number: u32, address: u64) -> bool
     ensures { λ r. ⌜ r ≡ (inPlan (first (λ p. eqb (p .number) number) noPort (heldPorts ports) .number)
         || some (λ p. eqb (p .address) address) (heldPorts ports)) ⌝ }
 {
@@ -39,17 +50,17 @@ fn port_reason(r: Records, number: u32, address: u64) -> u8
     ensures { λ x. ⌜ x ≡ portReason (planOf r) number address ⌝ }
 {
     if port_out(number, address) {
-        return 2;
+        return OUT_OF_RANGE;
     }
     let ports = r.ports;
     if port_again(ports, number, address) {
-        return 4;
+        return REPEATED;
     }
-    0
+    NO_FAULT
 }
 
 // Is a flow there with this number or this port and frame set?
-fn flow_again(flows: [Flow; 32], number: u32, key: u32) -> bool
+fn flow_again(flows: [Flow; FLOWS], number: u32, key: u32) -> bool
     ensures { λ r. ⌜ r ≡ (inPlan (first (λ f. eqb (f .number) number) noFlow (heldFlows flows) .number)
         || inPlan (first (λ f. eqb (flowKey f) key) noFlow (heldFlows flows) .number)) ⌝ }
 {
@@ -64,24 +75,24 @@ fn flow_reason(r: Records, number: u32, port: u32, kind: u8, vid: u32) -> u8
     ensures { λ x. ⌜ x ≡ flowReason (planOf r) number port kind vid ⌝ }
 {
     if flow_out(number, port, kind, vid) {
-        return 2;
+        return OUT_OF_RANGE;
     }
     let ports = r.ports;
     let p = port_numbered(ports, port);
     if p.number == 0 {
-        return 3;
+        return UNNAMED;
     }
     if !good_kind(kind, p.kind) {
-        return 2;
+        return OUT_OF_RANGE;
     }
     let flows = r.flows;
-    if flow_again(flows, number, port * 16777216 + kind as u32 * 65536 + vid) {
-        return 4;
+    if flow_again(flows, number, set_key(port as u8, kind, vid as u16)) {
+        return REPEATED;
     }
-    0
+    NO_FAULT
 }
 
-fn mp_at(mps: [u8; 8], level: u32) -> u8
+fn mp_at(mps: [u8; LEVELS], level: u32) -> u8
     requires { ⌜ level < 8 ⌝ }
     ensures { λ r. ⌜ r ≡ getD mps level 0 ⌝ }
 {
@@ -92,28 +103,28 @@ fn mp_reason(r: Records, flow: u32, level: u32) -> u8
     ensures { λ x. ⌜ x ≡ mpReason (planOf r) flow level ⌝ }
 {
     if mp_out(flow, level) {
-        return 2;
+        return OUT_OF_RANGE;
     }
     let flows = r.flows;
     let f = flow_numbered(flows, flow);
     if f.number == 0 {
-        return 3;
+        return UNNAMED;
     }
     let mps = f.mps;
     if mp_at(mps, level) != 0 {
-        return 4;
+        return REPEATED;
     }
-    if 32 <= mps_held(flows) {
-        return 7;
+    if MOST_MPS <= mps_held(flows) {
+        return TOO_MANY_MPS;
     }
-    0
+    NO_FAULT
 }
 
 pub fn reason_of(r: Records, line: Said) -> u8
     ensures { λ x. ⌜ x ≡ saidReason (planOf r) line ⌝ }
 {
     match line {
-        Said::Unreadable => 1,
+        Said::Unreadable => UNREADABLE,
         Said::OfPort(number, _, address) => port_reason(r, number, address),
         Said::OfFlow(number, port, kind, vid) => flow_reason(r, number, port, kind, vid),
         Said::OfMp(flow, _, level) => mp_reason(r, flow, level),

@@ -1,8 +1,16 @@
 // A plan's text, read line by line.
+use crate::NO_FAULT;
+use crate::NO_PORT;
 use crate::ReadPlan;
+use crate::TOO_LONG;
+use crate::UNREADABLE;
 use crate::additions::with_line;
 use crate::reasons::reason_of;
+use plan::FLOWS;
+use plan::LONGEST_TEXT;
+use plan::PORTS;
 use plan::Records;
+use plan_lines::LF;
 use plan_lines::end_of;
 use plan_lines::line_of;
 use plan_records::no_flow;
@@ -20,8 +28,8 @@ fn no_records() -> Records
     let p = no_port();
     let f = no_flow();
     Records {
-        ports: [p; 8],
-        flows: [f; 32],
+        ports: [p; PORTS],
+        flows: [f; FLOWS],
     }
 }
 
@@ -42,11 +50,11 @@ fn ended(records: Records) -> ReadPlan
 {
     let ports = records.ports;
     if none_held(ports) {
-        return faulty(0, 6);
+        return faulty(0, NO_PORT);
     }
     ReadPlan {
         line: 0,
-        reason: 0,
+        reason: NO_FAULT,
         records: records,
     }
 }
@@ -54,20 +62,20 @@ fn ended(records: Records) -> ReadPlan
 pub fn read_plan(text: &[u8]) -> ReadPlan
     ensures { λ r. ⌜ readingOf r ≡ planIn (now (text .entry)) ⌝ }
 {
-    if 8192 < text.len() {
-        return faulty(0, 5);
+    if LONGEST_TEXT < text.len() {
+        return faulty(0, TOO_LONG);
     }
     let mut records = no_records();
     let mut n: u32 = 1;
     let mut at: usize = 0;
     while at < text.len() {
-        let end = end_of(text, at, 10);
+        let end = end_of(text, at, LF);
         if end == text.len() {
-            return faulty(n, 1);
+            return faulty(n, UNREADABLE);
         }
         let line = line_of(&text[at..end]);
         let reason = reason_of(records, line);
-        if reason != 0 {
+        if reason != NO_FAULT {
             return faulty(n, reason);
         }
         records = with_line(records, line);

@@ -7,12 +7,12 @@ use native.Mathlib.Nat.{not-suc-le-zero, le-of-suc-le-suc}
 use native.Mathlib.Numerals.{add-one}
 use native.Mathlib.Omega.{arith}
 use lib.Dec.{eqb}
-use lib.ListN.{length, getD, set, drop}
-use borrow.Author.Tests.{le-ltb, lt-ltb, ne-eqb}
+use lib.ListN.{length, getD, set, length-set}
+use borrow.Author.Tests.{ne-eqb}
 use Rattle.octets.specs.Lists.{some, put}
 use Rattle.octets.proofs.Cases.{by-eq, by-lt}
 use Rattle.octets.proofs.ListLaws.{neither}
-use Rattle.plan.proofs.HeldLaws.{Rows, rows-end, rows-none, rows-one}
+use Rattle.plan.proofs.HeldLaws.{Rows}
 use Rattle.plan_records.specs.Insertion.{placeOf, inserted, changedFrom}
 
 module _ {A : Type 0} where
@@ -22,10 +22,7 @@ module _ {A : Type 0} where
   inserted-set zero x d (y ∷ l) h = refl
   inserted-set (suc i) x d (y ∷ l) h = ap (λ (r : List A). y ∷ r) (inserted-set i x d l (le-of-suc-le-suc h))
 
-  pub inserted-turn : (i : ℕ) (x d : A) (l : List A) → i < length l → inserted (i + 1) (getD l i d) (set l i x) ≡ inserted i x l
-  inserted-turn i x d l h = rw add-one (inserted-set i x d l h)
-
-  pub inserted-end : (i : ℕ) (x : A) (l : List A) → length l ≤ i → inserted i x l ≡ l
+  inserted-end : (i : ℕ) (x : A) (l : List A) → length l ≤ i → inserted i x l ≡ l
   unfolding inserted
   inserted-end i x [] h = refl
   inserted-end zero x (y ∷ l) h = absurd (not-suc-le-zero h)
@@ -52,6 +49,19 @@ module _ {A : Type 0} where
   unfolding changedFrom
   changed-all f [] = refl
   changed-all f (y ∷ l) = ap (λ (r : List A). f y ∷ r) (changed-all f l)
+
+-- a row that is put in at `at`, at row i of n: x waits there
+pub record Inserting {A : Type 0} (n at : ℕ) (x₀ : A) (l₀ : List A) (l : List A) (x : A) (i : ℕ) : Type 0 where
+  pub long : length l ≡ n
+  pub same : inserted i x l ≡ inserted at x₀ l₀
+
+module _ {A : Type 0} {n at : ℕ} {x₀ : A} {l₀ l : List A} {x : A} {i : ℕ} (w : Inserting n at x₀ l₀ l x i) where
+  pub insert-on : (d : A) → i < n → Inserting n at x₀ l₀ (set l i x) (getD l i d) (i + 1)
+  insert-on d h =
+      record { long = length-set l i x ∙ w .long; same = rw add-one (inserted-set i x d l (omega arith)) ∙ w .same }
+
+  pub insert-end : n ≤ i → l ≡ inserted at x₀ l₀
+  insert-end h = sym (inserted-end i x l (omega arith)) ∙ w .same
 
 module _ {A : Type 0} {number : A → ℕ} {held : List A → List A} (rows : Rows number held) where
   empty : (y : A) (l : List A) → number y ≡ 0 → held (y ∷ l) ≡ []
@@ -105,34 +115,3 @@ module _ {A : Type 0} {number : A → ℕ} {held : List A → List A} (rows : Ro
       (full y (inserted (placeOf key (key x) (held l)) x l) s
       ∙ ap (λ (r : List A). y ∷ r) (place-put key x n l m (b .1))))
       (λ f t. rw (f, b .0) (full x (inserted 0 y l) n ∙ ap (λ (r : List A). x ∷ r) (pushed y l s m)))))
-
-  -- the search for that place
-  module _ (key : A → ℕ) (k : ℕ) (l : List A) (i : ℕ) {X : ℕ} (inv : i + placeOf key k (held (drop i l)) ≡ X) where
-    pub place-end : length l ≤ i → i ≡ X
-    unfolding placeOf
-    place-end h =
-        let e : placeOf key k (held (drop i l)) ≡ 0 = ap (placeOf key k) (rows-end rows l i h) in
-        omega (arith, e, inv)
-
-    module _ (d : A) (h : i < length l) where
-      pub place-none : number (getD l i d) ≡ 0 → i ≡ X
-      unfolding placeOf
-      place-none z =
-          let e : placeOf key k (held (drop i l)) ≡ 0 = ap (placeOf key k) (rows-none rows l i d h z) in
-          omega (arith, e, inv)
-
-      pub place-here : (number (getD l i d) ≡ 0 → ⊥) → k ≤ key (getD l i d) → i ≡ X
-      unfolding placeOf
-      place-here n t =
-          let e : placeOf key k (held (drop i l)) ≡ 0 =
-          ap (placeOf key k) (rows-one rows l i d h n) ∙ rw (le-ltb (key (getD l i d)) k t)
-          in
-          omega (arith, e, inv)
-
-      pub place-on : (number (getD l i d) ≡ 0 → ⊥) → key (getD l i d) < k → i + 1 + placeOf key k (held (drop (i + 1) l)) ≡ X
-      unfolding placeOf
-      place-on n t =
-          let e : placeOf key k (held (drop i l)) ≡ suc (placeOf key k (held (drop (i + 1) l))) =
-          ap (placeOf key k) (rows-one rows l i d h n) ∙ rw (lt-ltb (key (getD l i d)) k t)
-          in
-          omega (arith, e, inv)

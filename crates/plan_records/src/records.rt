@@ -1,6 +1,10 @@
 // The records held: what is found among them.
+use plan::FLOWS;
 use plan::Flow;
+use plan::LEVELS;
+use plan::PORTS;
 use plan::Port;
+use plan::set_key;
 ghost use mathlib.Core.Path.{_≡_};
 ghost use mathlib.Core.Bool.{cond};
 ghost use Prim.Native.Nat.{_≤_};
@@ -28,15 +32,15 @@ pub fn no_flow() -> Flow
         port: 0,
         kind: 0,
         vid: 0,
-        mps: [0; 8],
+        mps: [0; LEVELS],
     }
 }
 
-pub fn port_numbered(ports: [Port; 8], number: u32) -> Port
+pub fn port_numbered(ports: [Port; PORTS], number: u32) -> Port
     ensures { λ r. ⌜ r ≡ first (λ p. eqb (p .number) number) noPort (heldPorts ports) ⌝ }
 {
     let mut i: usize = 0;
-    while i < 8 {
+    while i < PORTS {
         let p = ports[i];
         if p.number == 0 {
             return no_port();
@@ -49,7 +53,7 @@ pub fn port_numbered(ports: [Port; 8], number: u32) -> Port
     no_port()
 }
 
-pub fn none_held(ports: [Port; 8]) -> bool
+pub fn none_held(ports: [Port; PORTS]) -> bool
     ensures { λ r. ⌜ r ≡ eqb (length (heldPorts ports)) 0 ⌝ }
 {
     let p = ports[0];
@@ -59,11 +63,11 @@ pub fn none_held(ports: [Port; 8]) -> bool
     false
 }
 
-pub fn address_held(ports: [Port; 8], address: u64) -> bool
+pub fn address_held(ports: [Port; PORTS], address: u64) -> bool
     ensures { λ r. ⌜ r ≡ some (λ p. eqb (p .address) address) (heldPorts ports) ⌝ }
 {
     let mut i: usize = 0;
-    while i < 8 {
+    while i < PORTS {
         let p = ports[i];
         if p.number == 0 {
             return false;
@@ -76,11 +80,11 @@ pub fn address_held(ports: [Port; 8], address: u64) -> bool
     false
 }
 
-pub fn flow_numbered(flows: [Flow; 32], number: u32) -> Flow
+pub fn flow_numbered(flows: [Flow; FLOWS], number: u32) -> Flow
     ensures { λ r. ⌜ r ≡ first (λ f. eqb (f .number) number) noFlow (heldFlows flows) ⌝ }
 {
     let mut i: usize = 0;
-    while i < 32 {
+    while i < FLOWS {
         let f = flows[i];
         if f.number == 0 {
             return no_flow();
@@ -97,15 +101,15 @@ pub fn flow_numbered(flows: [Flow; 32], number: u32) -> Flow
 pub fn key_of(flow: Flow) -> u32
     ensures { λ r. ⌜ r ≡ flowKey flow ⌝ }
 {
-    flow.port as u32 * 16777216 + flow.kind as u32 * 65536 + flow.vid as u32
+    set_key(flow.port, flow.kind, flow.vid)
 }
 
 // Has a flow this port and frame set, as one number?
-pub fn set_held(flows: [Flow; 32], key: u32) -> bool
+pub fn set_held(flows: [Flow; FLOWS], key: u32) -> bool
     ensures { λ r. ⌜ r ≡ inPlan (first (λ f. eqb (flowKey f) key) noFlow (heldFlows flows) .number) ⌝ }
 {
     let mut i: usize = 0;
-    while i < 32 {
+    while i < FLOWS {
         let f = flows[i];
         if f.number == 0 {
             return false;
@@ -128,24 +132,24 @@ fn one_if(mp: u8) -> u32
     1
 }
 
-fn mps_in(mps: [u8; 8]) -> u32
+fn mps_in(mps: [u8; LEVELS]) -> u32
     ensures { λ r. ⌜ (r ≡ count (leb 1) mps) × (r ≤ 8) ⌝ }
 {
     let mut n: u32 = 0;
     let mut i: usize = 0;
-    while i < 8 {
+    while i < LEVELS {
         n += one_if(mps[i]);
         i += 1;
     }
     n
 }
 
-pub fn mps_held(flows: [Flow; 32]) -> u32
+pub fn mps_held(flows: [Flow; FLOWS]) -> u32
     ensures { λ r. ⌜ r ≡ mpCount (heldFlows flows) ⌝ }
 {
     let mut n: u32 = 0;
     let mut i: usize = 0;
-    while i < 32 {
+    while i < FLOWS {
         let f = flows[i];
         if f.number == 0 {
             return n;

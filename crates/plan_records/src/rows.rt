@@ -1,6 +1,8 @@
 // Rows put in their place, and rows changed.
 use crate::records::key_of;
+use plan::FLOWS;
 use plan::Flow;
+use plan::PORTS;
 use plan::Port;
 ghost use mathlib.Core.Path.{_≡_};
 ghost use mathlib.Core.List.{map};
@@ -12,11 +14,11 @@ ghost use Rattle.plan.specs.Records.{heldPorts, heldFlows};
 ghost use Rattle.plan_records.specs.Insertion.{placeOf, inserted, RoomFor};
 
 // How many ports come before this number.
-fn port_place(ports: [Port; 8], number: u8) -> usize
+fn port_place(ports: [Port; PORTS], number: u8) -> usize
     ensures { λ r. ⌜ r ≡ placeOf (λ p. p .number) number (heldPorts ports) ⌝ }
 {
     let mut i: usize = 0;
-    while i < 8 {
+    while i < PORTS {
         let p = ports[i];
         if p.number == 0 {
             return i;
@@ -30,13 +32,13 @@ fn port_place(ports: [Port; 8], number: u8) -> usize
 }
 
 // The port put in at a place, and the rows from there on moved one place on. The last row is dropped.
-fn port_at(ports: [Port; 8], at: usize, port: Port) -> [Port; 8]
+fn port_at(ports: [Port; PORTS], at: usize, port: Port) -> [Port; PORTS]
     ensures { λ r. ⌜ r ≡ inserted at port ports ⌝ }
 {
     let mut rows = ports;
     let mut next = port;
     let mut i = at;
-    while i < 8 {
+    while i < PORTS {
         let p = rows[i];
         rows[i] = next;
         next = p;
@@ -45,18 +47,18 @@ fn port_at(ports: [Port; 8], at: usize, port: Port) -> [Port; 8]
     rows
 }
 
-pub fn port_put(ports: [Port; 8], port: Port) -> [Port; 8]
+pub fn port_put(ports: [Port; PORTS], port: Port) -> [Port; PORTS]
     requires { ⌜ (0 < port .number) × RoomFor 8 (λ p. p .number) port (heldPorts ports) ⌝ }
     ensures { λ r. ⌜ heldPorts r ≡ put (λ p. p .number) port (heldPorts ports) ⌝ }
 {
     port_at(ports, port_place(ports, port.number), port)
 }
 
-fn flow_place(flows: [Flow; 32], key: u32) -> usize
+fn flow_place(flows: [Flow; FLOWS], key: u32) -> usize
     ensures { λ r. ⌜ r ≡ placeOf flowKey key (heldFlows flows) ⌝ }
 {
     let mut i: usize = 0;
-    while i < 32 {
+    while i < FLOWS {
         let f = flows[i];
         if f.number == 0 {
             return i;
@@ -69,13 +71,13 @@ fn flow_place(flows: [Flow; 32], key: u32) -> usize
     i
 }
 
-fn flow_at(flows: [Flow; 32], at: usize, flow: Flow) -> [Flow; 32]
+fn flow_at(flows: [Flow; FLOWS], at: usize, flow: Flow) -> [Flow; FLOWS]
     ensures { λ r. ⌜ r ≡ inserted at flow flows ⌝ }
 {
     let mut rows = flows;
     let mut next = flow;
     let mut i = at;
-    while i < 32 {
+    while i < FLOWS {
         let f = rows[i];
         rows[i] = next;
         next = f;
@@ -84,7 +86,7 @@ fn flow_at(flows: [Flow; 32], at: usize, flow: Flow) -> [Flow; 32]
     rows
 }
 
-pub fn flow_put(flows: [Flow; 32], flow: Flow) -> [Flow; 32]
+pub fn flow_put(flows: [Flow; FLOWS], flow: Flow) -> [Flow; FLOWS]
     requires { ⌜ (0 < flow .number) × RoomFor 32 flowKey flow (heldFlows flows) ⌝ }
     ensures { λ r. ⌜ heldFlows r ≡ put flowKey flow (heldFlows flows) ⌝ }
 {
@@ -109,13 +111,13 @@ fn mp_put(f: Flow, flow: u32, kind: u8, level: u32) -> Flow
     }
 }
 
-pub fn mps_put(flows: [Flow; 32], flow: u32, kind: u8, level: u32) -> [Flow; 32]
+pub fn mps_put(flows: [Flow; FLOWS], flow: u32, kind: u8, level: u32) -> [Flow; FLOWS]
     requires { ⌜ level < 8 ⌝ }
     ensures { λ r. ⌜ r ≡ map (withMp flow kind level) flows ⌝ }
 {
     let mut rows = flows;
     let mut i: usize = 0;
-    while i < 32 {
+    while i < FLOWS {
         let f = rows[i];
         let g = mp_put(f, flow, kind, level);
         rows[i] = g;

@@ -105,7 +105,7 @@ good-session s x k h =
     let a : Bool = inPlan (f .number) in
     let b : Bool = ltb (x .source) (2 ^ 48) in
     let c : Bool = not (group (x .source)) in
-    let d : Bool = tagFits (setOf (f .kind) (f .vid)) (x .count) (x .tag) in
+    let d : Bool = tagFits (setOf (f .kind) (f .vid)) (x .taglen) (x .tag) in
     let e : Bool = faces (mpAt (x .level) f) (x .side) in
     let g : Bool = goodTime (isAllowed (x .flow) s) x in
     let t5 : _ = both-true (a && b && c && d && e) g h in
@@ -124,7 +124,7 @@ good-session s x k h =
             flow-fits = omega (arith, within-high 1 32 (x .flow) v);
             source-fits = ltb-true (x .source) (2 ^ 48) (t1 .1);
             left-fits = omega (arith, left-fits (isAllowed (x .flow) s) x (t5 .1));
-            tag-fits = omega (arith, tag-fits (setOf (f .kind) (f .vid)) (x .count) (x .tag) (t3 .1));
+            tag-fits = omega (arith, tag-fits (setOf (f .kind) (f .vid)) (x .taglen) (x .tag) (t3 .1));
           };
       key-some = omega (arith, within-low 1 32 (x .flow) v);
     }

@@ -1,7 +1,7 @@
 -- The image, there and back: octets that pass are the one image of a valid state, and that image is read as the state.
 use mathlib.Core.Path.{_≡_, refl, sym, ap, _∙_}
 use mathlib.Core.Bool.{Bool, true, false}
-use mathlib.Core.List.{List, [], _∷_, _++_, map, append-nil}
+use mathlib.Core.List.{List, [], _∷_, _++_, map}
 use Prim.Native.Nat.{ℕ}
 use native.Mathlib.Omega.{arith}
 use lib.Dec.{eqb}
@@ -14,12 +14,13 @@ use Rattle.plan.specs.Plan.{soFar, keepsRules}
 use Rattle.plan.proofs.Kept.{rules-so-far}
 use Rattle.plan.proofs.Room.{ports-few, flows-few}
 use Rattle.state.specs.State.{State, valid}
-use Rattle.state.specs.Image.{zeros, portRow, flowRow, sessionRow, table, rowsIn, bit, head, image}
+use Rattle.state.specs.Image.{portRow, flowRow, sessionRow, rowsIn, bit, head, image}
+use Rattle.state.specs.Image.{unitFlag, sharedAddress, portsOpen, behindSessions}
 use Rattle.state.specs.Image.{portIn, flowIn, sessionIn, stateOf, okImage}
 use Rattle.state.proofs.Rules.{Valid, valid-parts}
 use Rattle.state.proofs.TableLaws.{rows-back}
 use Rattle.state.proofs.Sizes.{ports-readable, flows-readable, sessions-readable, Sized, sized}
-use Rattle.state.proofs.ImageParts.{allowed-part, places-part, flows-part, sessions-part}
+use Rattle.state.proofs.ImageParts.{allowed-part, places-part, flows-part, counts-part}
 use Rattle.state.proofs.ImageParts.{image-parts, image-allowed, image-ports, image-flows, image-sessions}
 use Rattle.state.proofs.ImageParts.{head-size, image-size}
 
@@ -64,7 +65,9 @@ module _ (s : State) (v : valid s ≡ true) where
   head-length = head-size s size
 
   clock-back : lowNumber 4 (image s) ≡ s .clock
-  clock-back = rw (image-parts s) (low-octets 4 (s .clock) (zeros 28 ++ allowed-part s) (parts .clock-fits))
+  clock-back =
+      let behind : List ℕ = unitFlag s ++ (sharedAddress s ++ (portsOpen s ++ allowed-part s)) in
+      rw (image-parts s) (low-octets 4 (s .clock) behind (parts .clock-fits))
 
   allowed-back : map (eqb 1) (take 32 (drop 32 (image s))) ≡ s .allowed
   allowed-back =
@@ -80,15 +83,16 @@ module _ (s : State) (v : valid s ≡ true) where
   flows-back : rowsIn 32 32 flowIn (drop 256 (image s)) ≡ s .plan .flows
   flows-back =
       let r : _ = flows-readable (s .plan) kept in
-      let t : List ℕ = zeros 256 ++ sessions-part s in
+      let t : List ℕ = counts-part s in
       rw (image-flows s size)
       (rows-back flowRow flowIn 32 (omega arith) 32 1024 (s .plan .flows) t r (flows-few (s .plan) far) (omega arith))
 
   sessions-back : rowsIn 16 32 sessionIn (drop 1536 (image s)) ≡ s .sessions
   sessions-back =
       let r : _ = sessions-readable s v in
-      rw (image-sessions s size, ← append-nil (table 2560 sessionRow (s .sessions)))
-      (rows-back sessionRow sessionIn 32 (omega arith) 16 2560 (s .sessions) [] r (parts .sessions-few) (omega arith))
+      rw (image-sessions s size)
+      (rows-back sessionRow sessionIn 32 (omega arith) 16 512 (s .sessions) (behindSessions s) r (parts .sessions-few)
+      (omega arith))
 
   pub state-image : stateOf (image s) ≡ s
   unfolding stateOf

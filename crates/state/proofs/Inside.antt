@@ -13,7 +13,7 @@ use Rattle.octets.proofs.Cases.{by-le}
 use Rattle.codec.specs.declared.FrameSet.{FrameSet}
 use Rattle.plan.specs.Plan.{setKey}
 use Rattle.state.specs.Rows.{portAt, flowAt, sessionAt, owedAt, rowAtPlace, numberedAt}
-use Rattle.state.proofs.FoundLaws.{found-passes, found-inside, found-fits}
+use Rattle.state.proofs.FoundLaws.{found-passes, found-fits}
 
 module _ (b : List ℕ) {r : ℕ} where
   pub port-fits : (number : ℕ) → r ≡ portAt number b → r + 16 ≤ 256
@@ -29,10 +29,6 @@ module _ (b : List ℕ) {r : ℕ} where
   unfolding sessionAt
   session-fits key e = rw e (found-fits (λ l. eqb (lowNumber 8 l) key) 32 15 1536 (drop 1536 b))
 
-  pub session-from : (key : ℕ) → r ≡ sessionAt key b → (r ≡ 0 → ⊥) → 1536 ≤ r
-  unfolding sessionAt
-  session-from key e z = rw e (found-inside (λ l. eqb (lowNumber 8 l) key) 32 16 1536 (drop 1536 b) (rw e at z) .0)
-
   pub session-keyed : (key : ℕ) → r ≡ sessionAt key b → (r ≡ 0 → ⊥) → lowNumber 8 (drop r b) ≡ key
   unfolding sessionAt
   session-keyed key e z =
@@ -41,10 +37,6 @@ module _ (b : List ℕ) {r : ℕ} where
   pub owed-fits : r ≡ owedAt b → r + 32 ≤ 2048
   unfolding owedAt
   owed-fits e = rw e (found-fits (λ l. not (eqb (getD l 12 0) 0)) 32 15 1536 (drop 1536 b))
-
-  pub owed-from : r ≡ owedAt b → (r ≡ 0 → ⊥) → 1536 ≤ r
-  unfolding owedAt
-  owed-from e z = rw e (found-inside (λ l. not (eqb (getD l 12 0) 0)) 32 16 1536 (drop 1536 b) (rw e at z) .0)
 
 place-fits : (place : ℕ) → rowAtPlace place + 32 ≤ 1280
 unfolding rowAtPlace within

@@ -5,8 +5,10 @@ pub mod RowLaws
 pub mod RowAnswers
 pub mod TableLaws
 pub mod Rules
+pub mod OwedRow
 pub mod Fits
 pub mod Sizes
+pub mod BaseParts
 pub mod ImageParts
 pub mod ImageLaws
 pub mod FindLaws

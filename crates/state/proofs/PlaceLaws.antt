@@ -1,13 +1,13 @@
 -- The row of a flow by its number: the place that the image has for it leads to the row that the flow is read from.
 use mathlib.Core.Path.{_≡_, refl, sym, ap, _∙_}
-use mathlib.Core.Bool.{Bool, true, false, cond, _&&_, not}
+use mathlib.Core.Bool.{Bool, true, false, cond, not}
 use mathlib.Core.List.{List, _++_}
 use Prim.Native.Nat.{ℕ, _+_, _-_, _*_, _<_, _≤_}
 use native.Mathlib.Omega.{arith}
-use lib.Dec.{eqb, leb}
+use lib.Dec.{eqb}
 use lib.ListN.{getD, take, drop}
 use lib.Seq.{getD-drop, getD-take, drop-drop, take-at}
-use borrow.Author.Tests.{ne-eqb, le-leb, lt-leb, leb-true}
+use borrow.Author.Tests.{ne-eqb, le-leb, lt-leb}
 use Rattle.octets.specs.Octets.{same}
 use Rattle.octets.specs.Lists.{within, every}
 use Rattle.octets.proofs.Same.{same-equal, same-self}
@@ -17,7 +17,7 @@ use Rattle.plan.specs.Plan.{Plan, noFlow, flowNumbered, inPlan}
 use Rattle.plan.proofs.Kept.{rules, good-numbers}
 use Rattle.plan.proofs.Found.{flow-found, flow-passes}
 use Rattle.state.specs.State.{State}
-use Rattle.state.specs.Image.{zeros, placeFrom, places, flowIn, stateOf, okImage}
+use Rattle.state.specs.Image.{behindPlaces, placeFrom, places, flowIn, stateOf, okImage}
 use Rattle.state.specs.Rows.{rowAtPlace, numberedAt, flowOfRow}
 use Rattle.state.proofs.Rules.{valid-parts}
 use Rattle.state.proofs.TableLaws.{rows-few}
@@ -25,20 +25,6 @@ use Rattle.state.proofs.Sizes.{sized}
 use Rattle.state.proofs.ImageParts.{places-length, ports-part, image-places}
 use Rattle.state.proofs.ImageLaws.{ok-valid, image-state}
 use Rattle.state.proofs.FlowPlaces.{place-bounds, place-in, place-at, atPlace, place-flow, no-number}
-
--- whatever the octets are, the row lies in an image
-pub row-room : (n : ℕ) (b : List ℕ) → numberedAt n b + 32 ≤ 4096
-unfolding numberedAt rowAtPlace within
-row-room n b = go (leb 1 n && leb n 32) (leb 1 p) (leb p 32) refl
-  where
-    p : ℕ
-    p = getD b (63 + n) 0
-
-    go : (t low high : Bool) → leb p 32 ≡ high → cond t (cond (low && high) (224 + p * 32) 0) 0 + 32 ≤ 4096
-    go true true true e = omega (arith, leb-true p 32 e)
-    go true true false e = omega arith
-    go true false high e = omega arith
-    go false low high e = omega arith
 
 module _ (b : List ℕ)
     (right : same (places 32 1 (stateOf b .plan .flows)) (take 32 (drop 64 b)) ≡ true)
@@ -120,7 +106,7 @@ module _ (b : List ℕ) (ok : okImage b ≡ true) where
   ok-places =
       let s : State = stateOf b in
       let ps : List ℕ = places 32 1 (s .plan .flows) in
-      let rest : List ℕ = zeros 32 ++ ports-part s in
+      let rest : List ℕ = behindPlaces s ++ ports-part s in
       let e : drop 64 b ≡ ps ++ rest = rw (image-state b ok) at (image-places s (sized s (ok-valid b ok))) in
       rw (e, take-at ps rest 32 (places-length 32 1 (s .plan .flows))) (same-self ps)
 

@@ -2,7 +2,7 @@
 use mathlib.Core.Path.{_≡_, refl}
 use mathlib.Core.Bool.{_&&_, and-assoc}
 use mathlib.Core.List.{List, [], _∷_, _++_, append-assoc}
-use Prim.Native.Nat.{ℕ, _+_, _^_, _<_, _≤_}
+use Prim.Native.Nat.{ℕ, _^_, _<_, _≤_}
 use native.Mathlib.Omega.{arith}
 use lib.Dec.{eqb}
 use lib.ListN.{length, getD, take, drop, length-append, length-drop}
@@ -77,7 +77,7 @@ module _ (x : Session) (t : List ℕ) (h : SessionFits x) where
   last = zeros 8 ++ t
 
   abbrev later : List ℕ
-  later = x .notice ∷ x .level ∷ x .side ∷ x .count ∷ lowOctets 8 (x .tag) ++ last
+  later = x .notice ∷ x .level ∷ x .side ∷ x .taglen ∷ lowOctets 8 (x .tag) ++ last
 
   abbrev behind : List ℕ
   behind = lowOctets 4 (x .left) ++ later

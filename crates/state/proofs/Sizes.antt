@@ -66,12 +66,14 @@ pub record Sized (s : State) : Type 0 where
   pub allowed-size : length (s .allowed) ≡ 32
   pub ports-size : length (table 128 portRow (s .plan .ports)) ≡ 128
   pub flows-size : length (table 1024 flowRow (s .plan .flows)) ≡ 1024
-  pub sessions-size : length (table 2560 sessionRow (s .sessions)) ≡ 2560
+  pub sessions-size : length (table 512 sessionRow (s .sessions)) ≡ 512
 
-readable-size : {A : Type 0} (row : A → List ℕ) (read : List ℕ → A) (width n : ℕ) (xs : List A)
-    → Each (Readable row read width) xs → length xs * width ≤ n → length (table n row xs) ≡ n
-readable-size row read width n xs h f =
-    table-length row width n xs (each-also (Readable row read width) (λ x. length (row x) ≡ width) (λ x r. r .long) xs h) f
+module _ {A : Type 0} (row : A → List ℕ) (read : List ℕ → A) (width : ℕ) (xs : List A) (h : Each (Readable row read width) xs) where
+  pub readable-long : Each (λ x. length (row x) ≡ width) xs
+  readable-long = each-also (Readable row read width) (λ x. length (row x) ≡ width) (λ x r. r .long) xs h
+
+  pub readable-size : (n : ℕ) → length xs * width ≤ n → length (table n row xs) ≡ n
+  readable-size n f = table-length row width n xs readable-long f
 
 pub sized : (s : State) → valid s ≡ true → Sized s
 sized s v =
@@ -83,7 +85,7 @@ sized s v =
     let sessions : length (s .sessions) ≤ 16 = p .sessions-few in
     record {
       allowed-size = p .allowed-length;
-      ports-size = readable-size portRow portIn 16 128 (s .plan .ports) (ports-readable (s .plan) k) (omega arith);
-      flows-size = readable-size flowRow flowIn 32 1024 (s .plan .flows) (flows-readable (s .plan) k) (omega arith);
-      sessions-size = readable-size sessionRow sessionIn 32 2560 (s .sessions) (sessions-readable s v) (omega arith);
+      ports-size = readable-size portRow portIn 16 (s .plan .ports) (ports-readable (s .plan) k) 128 (omega arith);
+      flows-size = readable-size flowRow flowIn 32 (s .plan .flows) (flows-readable (s .plan) k) 1024 (omega arith);
+      sessions-size = readable-size sessionRow sessionIn 32 (s .sessions) (sessions-readable s v) 512 (omega arith);
     }

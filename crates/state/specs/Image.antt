@@ -2,7 +2,7 @@
 -- octet have the lowest first.
 use mathlib.Core.List.{List, [], _∷_, _++_, map}
 use mathlib.Core.Bool.{Bool, true, false, cond, _&&_}
-use Prim.Native.Nat.{ℕ, zero, suc, _+_, _-_}
+use Prim.Native.Nat.{ℕ, zero, suc, _+_, _-_, _*_}
 use lib.ListN.{length, getD, take, drop, replicate}
 use lib.Dec.{eqb}
 use Rattle.octets.specs.Octets.{lowNumber, lowOctets, same}
@@ -11,6 +11,11 @@ use Rattle.machine.specs.Machine.{keyOf}
 use Rattle.plan.specs.declared.Port.{Port}
 use Rattle.plan.specs.declared.Flow.{Flow}
 use Rattle.state.specs.State.{State, valid}
+use Rattle.state.specs.Layout.{imageLength, clockAt, allowedAt, portsAt, flowsAt, sessionsAt, sessionsEnd}
+use Rattle.state.specs.Layout.{mostPorts, mostFlows, mostSessions, portWidth, flowWidth, sessionWidth}
+use Rattle.state.specs.Layout.{portKindAt, portNumberAt, flowNumberAt, flowVidAt, flowKindAt, flowPortAt, flowMpsAt}
+use Rattle.state.specs.Layout.{sessionFlowAt, sessionLeftAt, sessionNoticeAt, sessionLevelAt, sessionSideAt}
+use Rattle.state.specs.Layout.{sessionTaglenAt, sessionTagAt}
 
 unfoldable pub zeros : ℕ → List ℕ
 zeros n = replicate n 0
@@ -26,7 +31,7 @@ unfoldable pub sessionRow : Session → List ℕ
 sessionRow x =
     lowOctets 8 (keyOf x)
     ++ lowOctets 4 (x .left)
-    ++ (x .notice ∷ x .level ∷ x .side ∷ x .count ∷ lowOctets 8 (x .tag))
+    ++ (x .notice ∷ x .level ∷ x .side ∷ x .taglen ∷ lowOctets 8 (x .tag))
     ++ zeros 8
 
 module _ {A : Type 0} where
@@ -57,56 +62,91 @@ unfoldable pub bit : Bool → ℕ
 bit true = 1
 bit false = 0
 
+-- octets 4 to 7, the unit's flag: 0 in a unit of the base
+unfoldable pub unitFlag : State → List ℕ
+unitFlag s = zeros 4
+
+-- octets 8 to 15, an address that all ports share: 0, none, in a unit of the base
+unfoldable pub sharedAddress : State → List ℕ
+sharedAddress s = zeros 8
+
+-- octets 16 to 31, how many sessions are open at each port: 0 in a unit of the base, which counts none
+unfoldable pub portsOpen : State → List ℕ
+portsOpen s = zeros 16
+
+-- octets 96 to 127: 0, nothing stands there
+unfoldable pub behindPlaces : State → List ℕ
+behindPlaces s = zeros 32
+
+-- octets 1280 to 1471, how many frames went which way at each port: 0 in a unit of the base, which counts none
+unfoldable pub portCounters : State → List ℕ
+portCounters s = zeros 192
+
+-- octets 1472 to 1535, how many sessions are open on each flow: 0 in a unit of the base, which counts none
+unfoldable pub flowsOpen : State → List ℕ
+flowsOpen s = zeros 64
+
+-- octets 2048 to 4095: 0, nothing stands there
+unfoldable pub behindSessions : State → List ℕ
+behindSessions s = zeros (imageLength - sessionsEnd)
+
 -- the head: 1,536 octets
 unfoldable pub head : State → List ℕ
 head s =
     lowOctets 4 (s .clock)
-    ++ zeros 28
+    ++ unitFlag s
+    ++ sharedAddress s
+    ++ portsOpen s
     ++ map bit (s .allowed)
-    ++ places 32 1 (s .plan .flows)
-    ++ zeros 32
-    ++ table 128 portRow (s .plan .ports)
-    ++ table 1024 flowRow (s .plan .flows)
-    ++ zeros 256
+    ++ places mostFlows 1 (s .plan .flows)
+    ++ behindPlaces s
+    ++ table (mostPorts * portWidth) portRow (s .plan .ports)
+    ++ table (mostFlows * flowWidth) flowRow (s .plan .flows)
+    ++ portCounters s
+    ++ flowsOpen s
 
 -- One state has one image, of 4,096 octets.
 unfoldable pub image : State → List ℕ
-image s = head s ++ table 2560 sessionRow (s .sessions)
+image s = head s ++ table (mostSessions * sessionWidth) sessionRow (s .sessions) ++ behindSessions s
 
 unfoldable pub portIn : List ℕ → Port
-portIn l = record { number = getD l 7 0; kind = getD l 6 0; address = lowNumber 6 l }
+portIn l = record { number = getD l portNumberAt 0; kind = getD l portKindAt 0; address = lowNumber 6 l }
 
 unfoldable pub flowIn : List ℕ → Flow
 flowIn l =
     record {
-      number = getD l 1 0;
-      port = getD l 7 0;
-      kind = getD l 6 0;
-      vid = lowNumber 2 (drop 4 l);
-      mps = take 8 (drop 8 l);
+      number = getD l flowNumberAt 0;
+      port = getD l flowPortAt 0;
+      kind = getD l flowKindAt 0;
+      vid = lowNumber 2 (drop flowVidAt l);
+      mps = take 8 (drop flowMpsAt l);
     }
 
 unfoldable pub sessionIn : List ℕ → Session
 sessionIn l =
     record {
-      flow = lowNumber 2 (drop 6 l);
+      flow = lowNumber 2 (drop sessionFlowAt l);
       source = lowNumber 6 l;
-      level = getD l 13 0;
-      side = getD l 14 0;
-      count = getD l 15 0;
-      tag = lowNumber 8 (drop 16 l);
-      left = lowNumber 4 (drop 8 l);
-      notice = getD l 12 0;
+      level = getD l sessionLevelAt 0;
+      side = getD l sessionSideAt 0;
+      taglen = getD l sessionTaglenAt 0;
+      tag = lowNumber 8 (drop sessionTagAt l);
+      left = lowNumber 4 (drop sessionLeftAt l);
+      notice = getD l sessionNoticeAt 0;
     }
 
 -- what octets are read as, whatever they are
 unfoldable pub stateOf : List ℕ → State
 stateOf l =
     record {
-      plan = record { ports = rowsIn 8 16 portIn (drop 128 l); flows = rowsIn 32 32 flowIn (drop 256 l) };
-      clock = lowNumber 4 l;
-      allowed = map (eqb 1) (take 32 (drop 32 l));
-      sessions = rowsIn 16 32 sessionIn (drop 1536 l);
+      plan =
+          record {
+            ports = rowsIn mostPorts portWidth portIn (drop portsAt l);
+            flows = rowsIn mostFlows flowWidth flowIn (drop flowsAt l);
+          };
+      clock = lowNumber 4 (drop clockAt l);
+      allowed = map (eqb 1) (take mostFlows (drop allowedAt l));
+      sessions = rowsIn mostSessions sessionWidth sessionIn (drop sessionsAt l);
     }
 
 -- Octets are a valid state's image when they are the image of the state that they are read as, and that state is valid.

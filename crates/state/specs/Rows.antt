@@ -2,7 +2,7 @@
 -- say that what is found is what those definitions mean.
 use mathlib.Core.List.{List}
 use mathlib.Core.Bool.{Bool, cond, not}
-use Prim.Native.Nat.{ℕ, zero, suc, _+_, _*_}
+use Prim.Native.Nat.{ℕ, zero, suc, _+_, _-_, _*_}
 use lib.ListN.{getD, drop}
 use lib.Dec.{eqb}
 use Rattle.octets.specs.Octets.{lowNumber}
@@ -11,6 +11,9 @@ use Rattle.codec.specs.declared.FrameSet.{FrameSet}
 use Rattle.plan.specs.declared.Flow.{Flow}
 use Rattle.plan.specs.Plan.{noFlow, setKey}
 use Rattle.state.specs.Image.{flowIn}
+use Rattle.state.specs.Layout.{placesAt, portsAt, flowsAt, sessionsAt}
+use Rattle.state.specs.Layout.{mostPorts, mostFlows, mostSessions, portWidth, flowWidth, sessionWidth}
+use Rattle.state.specs.Layout.{portNumberAt, flowVidAt, sessionNoticeAt}
 
 -- where the first row stands that passes a test, of n rows of so many octets, the first of which stands at `at`; 0 if none does
 unfoldable pub findRow : ℕ → ℕ → (List ℕ → Bool) → ℕ → List ℕ → ℕ
@@ -20,24 +23,25 @@ findRow (suc n) width test at l =
 
 -- the row of a port, of a port's frame set, of a session, of the first session that is owed a notice
 unfoldable pub portAt : ℕ → List ℕ → ℕ
-portAt number b = findRow 8 16 (λ l. eqb (getD l 7 0) number) 128 (drop 128 b)
+portAt number b = findRow mostPorts portWidth (λ l. eqb (getD l portNumberAt 0) number) portsAt (drop portsAt b)
 
 unfoldable pub flowAt : ℕ → FrameSet → List ℕ → ℕ
 flowAt port set b =
-    findRow 32 32 (λ l. eqb (lowNumber 4 (drop 4 l)) (setKey port (set .kind) (set .vid))) 256 (drop 256 b)
+    findRow mostFlows flowWidth (λ l. eqb (lowNumber 4 (drop flowVidAt l)) (setKey port (set .kind) (set .vid))) flowsAt
+    (drop flowsAt b)
 
 unfoldable pub sessionAt : ℕ → List ℕ → ℕ
-sessionAt key b = findRow 16 32 (λ l. eqb (lowNumber 8 l) key) 1536 (drop 1536 b)
+sessionAt key b = findRow mostSessions sessionWidth (λ l. eqb (lowNumber 8 l) key) sessionsAt (drop sessionsAt b)
 
 unfoldable pub owedAt : List ℕ → ℕ
-owedAt b = findRow 16 32 (λ l. not (eqb (getD l 12 0) 0)) 1536 (drop 1536 b)
+owedAt b = findRow mostSessions sessionWidth (λ l. not (eqb (getD l sessionNoticeAt 0) 0)) sessionsAt (drop sessionsAt b)
 
 -- the row of a flow by its number, through the places
 unfoldable pub rowAtPlace : ℕ → ℕ
-rowAtPlace place = cond (within 1 32 place) (224 + place * 32) 0
+rowAtPlace place = cond (within 1 mostFlows place) (flowsAt - flowWidth + place * flowWidth) 0
 
 unfoldable pub numberedAt : ℕ → List ℕ → ℕ
-numberedAt flow b = cond (within 1 32 flow) (rowAtPlace (getD b (63 + flow) 0)) 0
+numberedAt flow b = cond (within 1 mostFlows flow) (rowAtPlace (getD b (placesAt - 1 + flow) 0)) 0
 
 -- the flow of a row
 unfoldable pub flowOfRow : ℕ → List ℕ → Flow

@@ -2,7 +2,7 @@
 use mathlib.Core.List.{List, [], _∷_}
 use mathlib.Core.Bool.{Bool, true, false, cond, _&&_, _||_, not}
 use Prim.Native.Nat.{ℕ, _+_, _-_, _^_}
-use lib.ListN.{length, getD}
+use lib.ListN.{length, getD, replicate}
 use lib.Dec.{eqb, ltb, leb}
 use Rattle.octets.specs.Lists.{within, every, some, count, first, ascends}
 use Rattle.codec.specs.FrameSet.{group, setOf, tagFits}
@@ -21,8 +21,19 @@ pub record State : Type 0 where
   pub allowed : List Bool
   pub sessions : List Session
 
+-- the state with another clock, other flows allowed, other sessions
+unfoldable pub withClock : ℕ → State → State
+withClock reading s = record { plan = s .plan; clock = reading; allowed = s .allowed; sessions = s .sessions }
+
+unfoldable pub withAllowed : List Bool → State → State
+withAllowed flows s = record { plan = s .plan; clock = s .clock; allowed = flows; sessions = s .sessions }
+
 unfoldable pub withSessions : List Session → State → State
 withSessions xs s = record { plan = s .plan; clock = s .clock; allowed = s .allowed; sessions = xs }
+
+-- Flows start prohibited and the clock at the reading given.
+unfoldable pub made : Plan → ℕ → State
+made plan clock = record { plan = plan; clock = clock; allowed = replicate 32 false; sessions = [] }
 
 unfoldable pub isAllowed : ℕ → State → Bool
 isAllowed flow s = getD (s .allowed) (flow - 1) false
@@ -46,7 +57,7 @@ goodSession s x =
     inPlan (f .number)
     && ltb (x .source) (2 ^ 48)
     && not (group (x .source))
-    && tagFits (setOf (f .kind) (f .vid)) (x .count) (x .tag)
+    && tagFits (setOf (f .kind) (f .vid)) (x .taglen) (x .tag)
     && faces (mpAt (x .level) f) (x .side)
     && goodTime (isAllowed (x .flow) s) x
 
@@ -67,16 +78,16 @@ unfoldable pub machineOf : ℕ → List Session → Machine
 machineOf k [] = Inactive
 machineOf k (x ∷ xs) = cond (eqb (keyOf x) k) (cond (isOpen x) (Active x) Inactive) (machineOf k xs)
 
--- May one more session of this flow open? 0, or the code of the reply: 16 open, 2, whatever the flow.
-unfoldable pub roomFor : Flow → State → ℕ
-roomFor flow s = cond (ltb (count isOpen (s .sessions)) 16) 0 2
+-- Is the unit full for one more session of this flow? 0, or the code of the reply: 16 open, 2, whatever the flow.
+unfoldable pub fullFor : Flow → State → ℕ
+fullFor flow s = cond (ltb (count isOpen (s .sessions)) 16) 0 2
 
 unfoldable pub noticeDue : State → Bool
 noticeDue s = some (λ x. not (isOpen x)) (s .sessions)
 
 -- what stands for a session that is not there
 unfoldable pub noSession : Session
-noSession = record { flow = 0; source = 0; level = 0; side = 0; count = 0; tag = 0; left = 0; notice = 0 }
+noSession = record { flow = 0; source = 0; level = 0; side = 0; taglen = 0; tag = 0; left = 0; notice = 0 }
 
 -- Notices leave in ascending flow, then source address: the first that is owed one.
 unfoldable pub firstOwed : State → Session

@@ -1,13 +1,21 @@
 // What an image says, whatever its octets are.
 use crate::Found;
+use crate::layout::ALLOWED_BEFORE;
+use crate::layout::CLOCK_AT;
+use crate::layout::FLOW_MPS_AT;
+use crate::layout::FLOW_NUMBER_AT;
+use crate::layout::MOST_SESSIONS;
+use crate::layout::SESSION_NOTICE_AT;
+use crate::layout::SESSION_WIDTH;
+use crate::layout::SESSIONS_AT;
 use crate::records::read_port;
 use crate::records::read_session;
 use crate::records::wide;
 use crate::rows::owed_at;
 use crate::rows::port_at;
 use crate::rows::session_at;
+use machine::MAX_SESSIONS_EXCEEDED;
 use machine::Machine;
-use machine::Session;
 use octets::low4;
 use octets::low8;
 use plan::Port;
@@ -20,7 +28,7 @@ ghost use Rattle.octets.specs.Lists.{count};
 ghost use Rattle.machine.specs.Machine.{isOpen};
 ghost use Rattle.plan.specs.declared.Flow.{Flow};
 ghost use Rattle.plan.specs.Plan.{portNumbered, mpAt};
-ghost use Rattle.state.specs.State.{isAllowed, machineOf, roomFor, noticeDue, firstOwed};
+ghost use Rattle.state.specs.State.{isAllowed, machineOf, fullFor, noticeDue};
 ghost use Rattle.state.specs.Image.{stateOf};
 ghost use Rattle.state.specs.Rows.{sessionAt, flowOfRow};
 
@@ -28,7 +36,7 @@ pub fn clock_of(b: &[u8]) -> u32
     requires { ⌜ length (now b) ≡ 4096 ⌝ }
     ensures { λ r. ⌜ r ≡ stateOf (now (b .entry)) .clock ⌝ }
 {
-    low4(b, 0)
+    low4(b, CLOCK_AT)
 }
 
 // A port by its number, or one with number 0.
@@ -55,7 +63,7 @@ pub fn number_of(b: &[u8], row: usize) -> u8
     if row == 0 {
         return 0;
     }
-    b[row + 1]
+    b[row + FLOW_NUMBER_AT]
 }
 
 // The MP at a level of the flow of a row, or 0.
@@ -69,14 +77,14 @@ pub fn mp_of(b: &[u8], row: usize, level: u8) -> u8
     if 7 < level {
         return 0;
     }
-    b[row + 8 + wide(level)]
+    b[row + FLOW_MPS_AT + wide(level)]
 }
 
 pub fn allows(b: &[u8], flow: usize) -> bool
     requires { ⌜ (length (now b) ≡ 4096) × ((1 ≤ flow) × (flow ≤ 32)) ⌝ }
     ensures { λ r. ⌜ r ≡ isAllowed flow (stateOf (now (b .entry))) ⌝ }
 {
-    b[31 + flow] == 1
+    b[ALLOWED_BEFORE + flow] == 1
 }
 
 pub fn find_machine(b: &[u8], key: u64) -> Found
@@ -118,26 +126,6 @@ pub fn notice_due(b: &[u8]) -> bool
     owed_at(b) != 0
 }
 
-pub fn first_owed(b: &[u8]) -> Session
-    requires { ⌜ length (now b) ≡ 4096 ⌝ }
-    ensures { λ r. ⌜ r ≡ firstOwed (stateOf (now (b .entry))) ⌝ }
-{
-    let at = owed_at(b);
-    if at == 0 {
-        return Session {
-            flow: 0,
-            source: 0,
-            level: 0,
-            side: 0,
-            count: 0,
-            tag: 0,
-            left: 0,
-            notice: 0,
-        };
-    }
-    read_session(b, at)
-}
-
 // 1 if the octet is 0.
 fn open_mark(notice: u8) -> usize
     ensures { λ r. ⌜ (r ≡ cond (eqb notice 0) 1 0) × (r ≤ 1) ⌝ }
@@ -154,24 +142,24 @@ pub fn open_count(b: &[u8]) -> usize
 {
     let mut n: usize = 0;
     let mut i: usize = 0;
-    while i < 16 {
-        let at = 1536 + i * 32;
+    while i < MOST_SESSIONS {
+        let at = SESSIONS_AT + i * SESSION_WIDTH;
         if low8(b, at) == 0 {
             return n;
         }
-        n += open_mark(b[at + 12]);
+        n += open_mark(b[at + SESSION_NOTICE_AT]);
         i += 1;
     }
     n
 }
 
-// May one more session open? 0, or the code of the reply.
-pub fn room_for(b: &[u8]) -> u8
+// Is the unit full for one more session? 0, or the code of the reply.
+pub fn full_for(b: &[u8]) -> u8
     requires { ⌜ length (now b) ≡ 4096 ⌝ }
-    ensures { λ r. ⌜ ((f : Flow) → r ≡ roomFor f (stateOf (now (b .entry)))) ⌝ }
+    ensures { λ r. ⌜ ((f : Flow) → r ≡ fullFor f (stateOf (now (b .entry)))) ⌝ }
 {
-    if open_count(b) < 16 {
+    if open_count(b) < MOST_SESSIONS {
         return 0;
     }
-    2
+    MAX_SESSIONS_EXCEEDED
 }

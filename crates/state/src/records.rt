@@ -1,4 +1,13 @@
 // A row of the image, by value.
+use crate::layout::PORT_KIND_AT;
+use crate::layout::PORT_NUMBER_AT;
+use crate::layout::SESSION_FLOW_AT;
+use crate::layout::SESSION_LEFT_AT;
+use crate::layout::SESSION_LEVEL_AT;
+use crate::layout::SESSION_NOTICE_AT;
+use crate::layout::SESSION_SIDE_AT;
+use crate::layout::SESSION_TAG_AT;
+use crate::layout::SESSION_TAGLEN_AT;
 use machine::Session;
 use octets::low2;
 use octets::low4;
@@ -21,8 +30,8 @@ pub fn read_port(b: &[u8], at: usize) -> Port
     ensures { λ r. ⌜ r ≡ portIn (drop at (now (b .entry))) ⌝ }
 {
     Port {
-        number: b[at + 7],
-        kind: b[at + 6],
+        number: b[at + PORT_NUMBER_AT],
+        kind: b[at + PORT_KIND_AT],
         address: low6(b, at),
     }
 }
@@ -32,13 +41,13 @@ pub fn read_session(b: &[u8], at: usize) -> Session
     ensures { λ r. ⌜ (r ≡ sessionIn (drop at (now (b .entry)))) × (r .source < 2 ^ 48) ⌝ }
 {
     Session {
-        flow: low2(b, at + 6),
+        flow: low2(b, at + SESSION_FLOW_AT),
         source: low6(b, at),
-        level: b[at + 13],
-        side: b[at + 14],
-        count: b[at + 15],
-        tag: low8(b, at + 16),
-        left: low4(b, at + 8),
-        notice: b[at + 12],
+        level: b[at + SESSION_LEVEL_AT],
+        side: b[at + SESSION_SIDE_AT],
+        taglen: b[at + SESSION_TAGLEN_AT],
+        tag: low8(b, at + SESSION_TAG_AT),
+        left: low4(b, at + SESSION_LEFT_AT),
+        notice: b[at + SESSION_NOTICE_AT],
     }
 }

@@ -1,13 +1,29 @@
 // Where a row stands in the image, or 0.
+use crate::layout::FLOW_VID_AT;
+use crate::layout::FLOW_WIDTH;
+use crate::layout::FLOWS_AT;
+use crate::layout::FLOWS_BEFORE;
+use crate::layout::LAST_FLOW;
+use crate::layout::LAST_PLACE;
+use crate::layout::MOST_FLOWS;
+use crate::layout::MOST_PORTS;
+use crate::layout::MOST_SESSIONS;
+use crate::layout::PLACES_BEFORE;
+use crate::layout::PORT_NUMBER_AT;
+use crate::layout::PORT_WIDTH;
+use crate::layout::PORTS_AT;
+use crate::layout::SESSION_NOTICE_AT;
+use crate::layout::SESSION_WIDTH;
+use crate::layout::SESSIONS_AT;
 use crate::records::wide;
 use codec::FrameSet;
 use octets::low4;
 use octets::low8;
+use plan::set_key;
 ghost use mathlib.Core.Path.{_≡_};
 ghost use lib.ListN.{length, drop};
 ghost use lib.Dec.{eqb};
 ghost use Rattle.octets.specs.Octets.{lowNumber};
-ghost use Rattle.plan.specs.Plan.{setKey};
 ghost use Rattle.state.specs.Rows.{findRow, portAt, flowAt, sessionAt, owedAt, rowAtPlace, numberedAt};
 
 pub fn port_at(b: &[u8], number: u32) -> usize
@@ -15,12 +31,12 @@ pub fn port_at(b: &[u8], number: u32) -> usize
     ensures { λ r. ⌜ r ≡ portAt number (now (b .entry)) ⌝ }
 {
     let mut i: usize = 0;
-    while i < 8 {
-        let at = 128 + i * 16;
+    while i < MOST_PORTS {
+        let at = PORTS_AT + i * PORT_WIDTH;
         if low8(b, at) == 0 {
             return 0;
         }
-        if b[at + 7] as u32 == number {
+        if b[at + PORT_NUMBER_AT] as u32 == number {
             return at;
         }
         i += 1;
@@ -28,24 +44,17 @@ pub fn port_at(b: &[u8], number: u32) -> usize
     0
 }
 
-// A port and a frame set as one number.
-fn set_key(port: u8, set: FrameSet) -> u32
-    ensures { λ r. ⌜ r ≡ setKey port (set .kind) (set .vid) ⌝ }
-{
-    port as u32 * 16777216 + set.kind as u32 * 65536 + set.vid as u32
-}
-
 fn keyed_at(b: &[u8], key: u32) -> usize
     requires { ⌜ length (now b) ≡ 4096 ⌝ }
     ensures { λ r. ⌜ r ≡ findRow 32 32 (λ l. eqb (lowNumber 4 (drop 4 l)) key) 256 (drop 256 (now (b .entry))) ⌝ }
 {
     let mut i: usize = 0;
-    while i < 32 {
-        let at = 256 + i * 32;
+    while i < MOST_FLOWS {
+        let at = FLOWS_AT + i * FLOW_WIDTH;
         if low8(b, at) == 0 {
             return 0;
         }
-        if low4(b, at + 4) == key {
+        if low4(b, at + FLOW_VID_AT) == key {
             return at;
         }
         i += 1;
@@ -57,7 +66,7 @@ pub fn flow_at(b: &[u8], port: u8, set: FrameSet) -> usize
     requires { ⌜ length (now b) ≡ 4096 ⌝ }
     ensures { λ r. ⌜ r ≡ flowAt port set (now (b .entry)) ⌝ }
 {
-    keyed_at(b, set_key(port, set))
+    keyed_at(b, set_key(port, set.kind, set.vid))
 }
 
 pub fn session_at(b: &[u8], key: u64) -> usize
@@ -65,8 +74,8 @@ pub fn session_at(b: &[u8], key: u64) -> usize
     ensures { λ r. ⌜ r ≡ sessionAt key (now (b .entry)) ⌝ }
 {
     let mut i: usize = 0;
-    while i < 16 {
-        let at = 1536 + i * 32;
+    while i < MOST_SESSIONS {
+        let at = SESSIONS_AT + i * SESSION_WIDTH;
         let head = low8(b, at);
         if head == 0 {
             return 0;
@@ -84,12 +93,12 @@ pub fn owed_at(b: &[u8]) -> usize
     ensures { λ r. ⌜ r ≡ owedAt (now (b .entry)) ⌝ }
 {
     let mut i: usize = 0;
-    while i < 16 {
-        let at = 1536 + i * 32;
+    while i < MOST_SESSIONS {
+        let at = SESSIONS_AT + i * SESSION_WIDTH;
         if low8(b, at) == 0 {
             return 0;
         }
-        if b[at + 12] != 0 {
+        if b[at + SESSION_NOTICE_AT] != 0 {
             return at;
         }
         i += 1;
@@ -104,10 +113,10 @@ fn row_at_place(place: u8) -> usize
     if place < 1 {
         return 0;
     }
-    if 32 < place {
+    if LAST_PLACE < place {
         return 0;
     }
-    224 + wide(place) * 32
+    FLOWS_BEFORE + wide(place) * FLOW_WIDTH
 }
 
 pub fn numbered_at(b: &[u8], flow: u32) -> usize
@@ -117,8 +126,8 @@ pub fn numbered_at(b: &[u8], flow: u32) -> usize
     if flow < 1 {
         return 0;
     }
-    if 32 < flow {
+    if LAST_FLOW < flow {
         return 0;
     }
-    row_at_place(b[63 + flow as usize])
+    row_at_place(b[PLACES_BEFORE + flow as usize])
 }

@@ -18,15 +18,12 @@ use Rattle.state.specs.State.{State}
 use Rattle.state.specs.Image.{zeros, portRow, flowRow, sessionRow, portIn, flowIn, rows, table, places, bit, image}
 use Rattle.state.proofs.Runs.{drop-zeros, zeros-join}
 use Rattle.state.proofs.FlowPlaces.{numbers}
-use Rattle.state.proofs.ImageParts.{image-parts}
-use Rattle.state.proofs.Sizes.{ports-readable, flows-readable}
-use Rattle.state.proofs.TableLaws.{Each, each-also, Readable, none-table, rows-length, table-length}
+use Rattle.state.proofs.BaseParts.{zeros-length, Bare, bare}
+use Rattle.state.proofs.ImageParts.{image-front}
+use Rattle.state.proofs.Sizes.{ports-readable, flows-readable, readable-long, readable-size}
+use Rattle.state.proofs.TableLaws.{Each, Readable, none-table, rows-length}
 use Rattle.state_maker.specs.Places.{placesPut}
 use Rattle.state_maker.proofs.Seats.{put-places}
-
-zeros-length : (n : ℕ) → length (zeros n) ≡ n
-unfolding zeros
-zeros-length n = length-replicate {A = ℕ} n 0
 
 -- octets all cleared, and a number written at the front of zeros
 all-cleared : (n : ℕ) (b : List ℕ) {c : List ℕ} → length b ≡ n → c ≡ splice 0 (replicate (n - 0) 0) b → c ≡ zeros n
@@ -45,19 +42,13 @@ none-allowed (suc n) = ap {B = List ℕ} (λ q. 0 ∷ q) (none-allowed n)
 
 module _ {A : Type 0} (row : A → List ℕ) (read : List ℕ → A) (width n : ℕ) (xs : List A)
     (r : Each (Readable row read width) xs) (few : length xs * width ≤ n) where
-  each-long : Each (λ x. length (row x) ≡ width) xs
-  each-long = each-also (Readable row read width) (λ x. length (row x) ≡ width) (λ x h. h .long) xs r
-
-  table-long : length (table n row xs) ≡ n
-  table-long = table-length row width n xs each-long few
-
   -- rows written over zeros make their table
   table-put : (at : ℕ) (a t : List ℕ) → length a ≡ at
       → splice at (rows row xs) (a ++ (zeros n ++ t)) ≡ a ++ (table n row xs ++ t)
   unfolding table
   table-put at a t e =
       let w : List ℕ = rows row xs in
-      let fit : length w ≤ length (zeros n) = rw (rows-length row width xs each-long, zeros-length n) few in
+      let fit : length w ≤ length (zeros n) = rw (rows-length row width xs (readable-long row read width xs r), zeros-length n) few in
       rw (
         take-at a (zeros n ++ t) at e,
         drop-at a (zeros n ++ t) at e,
@@ -104,7 +95,7 @@ module _ (plan : Plan) (clock : ℕ) (kept : keepsRules plan ≡ true) where
       = rw (
         length-append,
         front-length 124 128 refl,
-        table-long portRow portIn 16 128 (plan .ports) (ports-readable plan kept) ports-fit,
+        readable-size portRow portIn 16 (plan .ports) (ports-readable plan kept) 128 ports-fit,
       ) in
       let e : front 124 ++ (ports ++ zeros 3840) ≡ a ++ (zeros 1024 ++ zeros 2816)
       = rw (zeros-join 1024 2816 3840 refl) (simp append-assoc) in
@@ -131,8 +122,25 @@ module _ (plan : Plan) (clock : ℕ) (kept : keepsRules plan ≡ true) where
       → front 60 ++ (places 32 1 (plan .flows) ++ (zeros 32 ++ (ports ++ (flows ++ zeros 2816)))) ≡ image (made allowed)
   whole allowed none =
       let t : List ℕ = places 32 1 (plan .flows) ++ (zeros 32 ++ (ports ++ (flows ++ zeros 2816))) in
-      rw (image-parts (made allowed), none-table sessionRow 2560, zeros-join 256 2560 2816 refl, none)
-      (sym (front-more 28 32 60 t refl) ∙ append-assoc (lowOctets 4 clock) (zeros 28) (zeros 32 ++ t))
+      let b : Bare (made allowed) = bare (made allowed) in
+      rw (
+        image-front (made allowed),
+        b .flag,
+        b .shared,
+        b .ports-open,
+        zeros-join 8 16 24 refl,
+        zeros-join 4 24 28 refl,
+        none,
+        b .behind-places,
+        b .counters,
+        b .flows-open,
+        none-table sessionRow 512,
+        b .behind-sessions,
+        zeros-join 512 2048 2560 refl,
+        zeros-join 64 2560 2624 refl,
+        zeros-join 192 2624 2816 refl,
+      )
+      (sym (front-more 28 32 60 t refl))
 
   pub made-image : (b : List ℕ) {b₀ b₁ b₂ b₃ b₄ : List ℕ} → length b ≡ 4096 → b₀ ≡ splice 0 (replicate (4096 - 0) 0) b
       → b₁ ≡ splice 0 (lowOctets 4 clock) b₀ → b₂ ≡ splice 128 (rows portRow (plan .ports)) b₁

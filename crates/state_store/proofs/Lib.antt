@@ -2,7 +2,6 @@ pub mod MapLaws
 pub mod PlaceLaws
 pub mod Steps
 pub mod Ways
-pub mod Kept
 pub mod Tables
 pub mod Seeks
 pub mod Shift

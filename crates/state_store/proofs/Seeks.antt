@@ -2,7 +2,7 @@
 use mathlib.Core.Path.{_≡_, refl}
 use mathlib.Core.Bool.{true}
 use mathlib.Core.List.{List, [], _∷_, _++_}
-use Prim.Native.Nat.{ℕ, suc, zero, _+_, _-_, _≤_}
+use Prim.Native.Nat.{ℕ, suc, zero, _+_, _-_, _*_, _≤_}
 use native.Mathlib.Omega.{arith}
 use lib.Dec.{eqb}
 use lib.ListN.{length, drop}
@@ -13,11 +13,10 @@ use Rattle.octets.specs.Lists.{ascends}
 use Rattle.octets.proofs.Ordered.{next-key}
 use Rattle.machine.specs.declared.Session.{Session}
 use Rattle.machine.specs.Machine.{keyOf}
-use Rattle.state.specs.Image.{sessionRow, table}
 use Rattle.state.specs.Rows.{findRow}
 use Rattle.state.proofs.RowLaws.{SessionFits}
 use Rattle.state.proofs.TableLaws.{Each}
-use Rattle.state_store.proofs.Tables.{empty-key, first-key, behind-first, past-drop}
+use Rattle.state_store.proofs.Tables.{tableThen, empty-key, first-key, behind-first, past-drop}
 
 -- where the key stands, of k rows, the first of which stands at `start`; 0 if nowhere
 abbrev pub seek : ℕ → ℕ → ℕ → List ℕ → ℕ
@@ -29,25 +28,26 @@ seek-none zero key start l z = refl
 seek-none (suc k) key start l z = rw (eq-eqb (lowNumber 8 l) 0 z)
 
 -- nowhere, where all keys are above it
-pub seek-low : (k n key start last : ℕ) (xs : List Session) → ascends keyOf last xs ≡ true → Each SessionFits xs → key ≤ last
-    → seek k key start (table n sessionRow xs) ≡ 0
+pub seek-low : (t : List ℕ) (k n key start last : ℕ) (xs : List Session) → k * 32 ≤ n → ascends keyOf last xs ≡ true
+    → Each SessionFits xs → key ≤ last → seek k key start (tableThen t n xs) ≡ 0
 unfolding findRow
-seek-low zero n key start last xs a f h = refl
-seek-low (suc k) n key start last [] a f h = seek-none (suc k) key start (table n sessionRow []) (empty-key n)
-seek-low (suc k) n key start last (y ∷ ys) a f h =
+seek-low t zero n key start last xs fit a f h = refl
+seek-low t (suc k) n key start last [] fit a f h =
+    seek-none (suc k) key start (tableThen t n []) (empty-key t n (omega arith))
+seek-low t (suc k) n key start last (y ∷ ys) fit a f h =
     let p : _ = next-key keyOf last y ys a in
     rw (
-      first-key n y ys (f .0),
+      first-key t n y ys (f .0),
       ne-eqb (keyOf y) 0 (λ z. omega arith),
       ne-eqb (keyOf y) key (λ z. omega arith),
-      behind-first n y ys,
+      behind-first t n y ys,
     )
-    (seek-low k (n - 32) key (start + 32) (keyOf y) ys (p .1) (f .1) (omega arith))
+    (seek-low t k (n - 32) key (start + 32) (keyOf y) ys (omega arith) (p .1) (f .1) (omega arith))
 
-module _ (h : List ℕ) (m k n key : ℕ) (y : Session) (ys : List Session)
+module _ (h t : List ℕ) (m k n key : ℕ) (y : Session) (ys : List Session)
     (long : length h ≡ m) (f : SessionFits y) (some : 1 ≤ keyOf y) where
   abbrev whole : List ℕ
-  whole = h ++ table n sessionRow (y ∷ ys)
+  whole = h ++ tableThen t n (y ∷ ys)
 
   empty : keyOf y ≡ 0 → ⊥
   empty z = omega arith
@@ -57,8 +57,8 @@ module _ (h : List ℕ) (m k n key : ℕ) (y : Session) (ys : List Session)
   unfolding findRow
   seek-first same =
       rw (
-        drop-at h (table n sessionRow (y ∷ ys)) m long,
-        first-key n y ys f,
+        drop-at h (tableThen t n (y ∷ ys)) m long,
+        first-key t n y ys f,
         ne-eqb (keyOf y) 0 empty,
         eq-eqb (keyOf y) key same,
       )
@@ -68,10 +68,10 @@ module _ (h : List ℕ) (m k n key : ℕ) (y : Session) (ys : List Session)
   unfolding findRow
   seek-later other =
       rw (
-        drop-at h (table n sessionRow (y ∷ ys)) m long,
-        past-drop h m n y ys long,
-        first-key n y ys f,
+        drop-at h (tableThen t n (y ∷ ys)) m long,
+        past-drop t n y ys h m long,
+        first-key t n y ys f,
         ne-eqb (keyOf y) 0 empty,
         ne-eqb (keyOf y) key other,
-        behind-first n y ys,
+        behind-first t n y ys,
       )

@@ -1,19 +1,18 @@
 -- A row put in, or taken out, right behind a head of m octets, and what that makes of the table that stood there.
 use mathlib.Core.Path.{_≡_, refl, ap}
-use mathlib.Core.List.{List, [], _∷_, _++_, append-assoc}
-use Prim.Native.Nat.{ℕ, suc, zero, _+_, _-_, _*_, _≤_}
-use native.Mathlib.Nat.{not-suc-le-zero, le-of-suc-le-suc}
+use mathlib.Core.List.{List, _++_, append-assoc}
+use Prim.Native.Nat.{ℕ, _+_, _-_, _*_, _≤_}
 use native.Mathlib.Omega.{arith}
-use lib.ListN.{length, take, drop, length-append}
+use lib.ListN.{length, take, drop, length-append, replicate-append-replicate}
 use lib.Seq.{take-at, drop-at, drop-drop, length-take-le}
 use Rattle.octets.specs.Octets.{splice, movedUp, movedDown}
 use Rattle.machine.specs.declared.Session.{Session}
-use Rattle.state.specs.Image.{zeros, sessionRow, table}
-use Rattle.state.proofs.Runs.{take-past, drop-past, take-zeros, drop-zeros, zeros-join}
+use Rattle.state.specs.Image.{zeros, sessionRow, rows, table}
+use Rattle.state.proofs.BaseParts.{zeros-length}
+use Rattle.state.proofs.Runs.{take-past, drop-past, zeros-join}
 use Rattle.state.proofs.RowLaws.{session-length}
-use Rattle.state.proofs.TableLaws.{Each, none-table, table-length}
 use Rattle.state_store.specs.StoredRows.{rowPut}
-use Rattle.state_store.proofs.Tables.{first-row}
+use Rattle.state_store.proofs.Tables.{tableThen, table-long}
 
 -- ---- a row at the end of a head of m octets
 
@@ -75,67 +74,48 @@ removed-behind h r l m q long row fit =
 
 -- ---- a table in fewer octets, and in more
 
-rows-long : (xs : List Session) → Each (λ x. length (sessionRow x) ≡ 32) xs
-rows-long [] = tt
-rows-long (x ∷ xs) = (session-length x, rows-long xs)
+-- a table whose rows leave room behind them
+more-room : (n m : ℕ) (xs : List Session) → length (table n sessionRow xs) ≡ n
+    → table (n + m) sessionRow xs ≡ table n sessionRow xs ++ zeros m
+unfolding table zeros
+more-room n m xs e =
+    let k : ℕ = length (rows sessionRow xs) in
+    let fit : k ≤ n = omega (arith, rw length-append at e) in
+    let d : n + m - k ≡ n - k + m = omega arith in
+    rw (append-assoc, replicate-append-replicate, d)
 
-pub table-long : (n : ℕ) (xs : List Session) → length xs * 32 ≤ n → length (table n sessionRow xs) ≡ n
-table-long n xs h = table-length sessionRow 32 n xs (rows-long xs) h
+-- room for k rows in front, and for one more behind them
+module _ (t : List ℕ) (k n : ℕ) (xs : List Session) (h : length xs ≤ k) (fit : k * 32 + 32 ≤ n) where
+  abbrev front : List ℕ
+  front = table (k * 32) sessionRow xs
 
-count : (k n : ℕ) → k * 32 + 32 ≤ n → k * 32 + (n - (k * 32 + 32)) ≡ n - 32
-count k n h = omega arith
+  front-long : length front ≡ k * 32
+  front-long = table-long (k * 32) xs (omega arith)
 
-pub shorter : (k n : ℕ) (xs : List Session) → length xs ≤ k → k * 32 + 32 ≤ n
-    → take (k * 32) (table n sessionRow xs) ++ drop (k * 32 + 32) (table n sessionRow xs) ≡ table (n - 32) sessionRow xs
-shorter k n [] h fit =
-    rw (
-      none-table sessionRow n,
-      none-table sessionRow (n - 32),
-      take-zeros (k * 32) n (omega arith),
-      drop-zeros (k * 32 + 32) n,
-      zeros-join (k * 32) (n - (k * 32 + 32)) (n - 32) (count k n fit),
-    )
-shorter zero n (x ∷ xs) h fit = absurd (not-suc-le-zero h)
-shorter (suc k) n (x ∷ xs) h fit =
-    let r : List ℕ = table (n - 32) sessionRow xs in
-    let w : suc k * 32 ≡ 32 + k * 32 = omega arith in
-    let v : 32 + k * 32 + 32 ≡ 32 + (k * 32 + 32) = omega arith in
-    rw (
-      w,
-      v,
-      first-row n x xs,
-      first-row (n - 32) x xs,
-      take-past (sessionRow x) r 32 (k * 32) (session-length x),
-      drop-past (sessionRow x) r 32 (k * 32 + 32) (session-length x),
-      append-assoc (sessionRow x) (take (k * 32) r) (drop (k * 32 + 32) r),
-      shorter k (n - 32) xs (le-of-suc-le-suc h) (omega arith),
-    )
+  abbrev back : List ℕ
+  back = zeros (n - 32 - k * 32) ++ t
 
-more : (k n : ℕ) → k * 32 + 32 ≤ n → k * 32 + (32 + (n - 32 - k * 32)) ≡ n
-more k n h = omega arith
+  cut : (m p : ℕ) → k * 32 + p ≡ m → tableThen t m xs ≡ front ++ (zeros p ++ t)
+  cut m p e = rw (← e, more-room (k * 32) p xs front-long) (append-assoc front (zeros p) t)
 
-pub longer : (k n : ℕ) (xs : List Session) → length xs ≤ k → k * 32 + 32 ≤ n
-    → take (k * 32) (table (n - 32) sessionRow xs) ++ (zeros 32 ++ drop (k * 32) (table (n - 32) sessionRow xs))
-    ≡ table n sessionRow xs
-longer k n [] h fit =
-    rw (
-      none-table sessionRow n,
-      none-table sessionRow (n - 32),
-      take-zeros (k * 32) (n - 32) (omega arith),
-      drop-zeros (k * 32) (n - 32),
-      zeros-join 32 (n - 32 - k * 32) (32 + (n - 32 - k * 32)) refl,
-      zeros-join (k * 32) (32 + (n - 32 - k * 32)) n (more k n fit),
-    )
-longer zero n (x ∷ xs) h fit = absurd (not-suc-le-zero h)
-longer (suc k) n (x ∷ xs) h fit =
-    let r : List ℕ = table (n - 32 - 32) sessionRow xs in
-    let w : suc k * 32 ≡ 32 + k * 32 = omega arith in
-    rw (
-      w,
-      first-row n x xs,
-      first-row (n - 32) x xs,
-      take-past (sessionRow x) r 32 (k * 32) (session-length x),
-      drop-past (sessionRow x) r 32 (k * 32) (session-length x),
-      append-assoc (sessionRow x) (take (k * 32) r) (zeros 32 ++ drop (k * 32) r),
-      longer k (n - 32) xs (le-of-suc-le-suc h) (omega arith),
-    )
+  wide : tableThen t n xs ≡ front ++ (zeros 32 ++ back)
+  wide =
+      let q : ℕ = n - 32 - k * 32 in
+      rw (← append-assoc (zeros 32) (zeros q) t, zeros-join 32 q (32 + q) refl) (cut n (32 + q) (omega arith))
+
+  narrow : tableThen t (n - 32) xs ≡ front ++ back
+  narrow = cut (n - 32) (n - 32 - k * 32) (omega arith)
+
+  pub shorter : take (k * 32) (tableThen t n xs) ++ drop (k * 32 + 32) (tableThen t n xs) ≡ tableThen t (n - 32) xs
+  shorter =
+      let r : List ℕ = zeros 32 ++ back in
+      rw (
+        wide,
+        narrow,
+        take-at front r (k * 32) front-long,
+        drop-past front r (k * 32) 32 front-long,
+        drop-at (zeros 32) back 32 (zeros-length 32),
+      )
+
+  pub longer : take (k * 32) (tableThen t (n - 32) xs) ++ (zeros 32 ++ drop (k * 32) (tableThen t (n - 32) xs)) ≡ tableThen t n xs
+  longer = rw (wide, narrow, take-at front back (k * 32) front-long, drop-at front back (k * 32) front-long)

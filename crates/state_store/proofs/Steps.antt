@@ -1,14 +1,20 @@
--- What time and a prohibition keep of a session: all but the time left and the notice.
-use mathlib.Core.Path.{_≡_, refl}
+-- What a tick and management keep of a session: all but the time left and the notice.
+use mathlib.Core.Path.{_≡_, refl, sym}
 use mathlib.Core.Bool.{Bool, true, false, cond, _&&_}
-use Prim.Native.Nat.{ℕ, _-_, _<_, _≤_, _^_}
+use mathlib.Core.List.{List}
+use Prim.Native.Nat.{ℕ, _-_, _≤_}
 use native.Mathlib.Omega.{arith}
 use lib.Dec.{eqb, leb}
+use Rattle.octets.specs.Octets.{lowNumber}
 use Rattle.machine.specs.declared.Session.{Session}
-use Rattle.machine.specs.Table.{active, timer-expiration, mgmt-prohibit, actionOf, expire, withdraw}
-use Rattle.machine.specs.Machine.{key, keyOf, isOpen, lasting, owed, closedBy, withdrawn}
-use Rattle.machine.specs.Time.{ticked}
-use Rattle.state.proofs.RowLaws.{SessionFits}
+use Rattle.machine.specs.declared.Sweep.{Sweep}
+use Rattle.machine.specs.declared.Sweep.the-variants.{Ticked, Managed}
+use Rattle.machine.specs.Table.{active, timer-expiration, actionOf, nothing, expire, withdraw}
+use Rattle.machine.specs.Machine.{key, keyOf, isOpen, lasting, owed}
+use Rattle.machine.specs.Management.{closedBy, managedBy}
+use Rattle.machine.specs.Time.{ticked, swept}
+use Rattle.state.specs.Image.{sessionIn}
+use Rattle.state.proofs.RowLaws.{SessionFits, session-key-in}
 
 -- y is x, with its time run down or closed
 pub record Keeps (x y : Session) : Type 0 where
@@ -16,7 +22,7 @@ pub record Keeps (x y : Session) : Type 0 where
   pub source-kept : y .source ≡ x .source
   pub level-kept : y .level ≡ x .level
   pub side-kept : y .side ≡ x .side
-  pub count-kept : y .count ≡ x .count
+  pub count-kept : y .taglen ≡ x .taglen
   pub tag-kept : y .tag ≡ x .tag
   pub left-less : y .left ≤ x .left
 
@@ -28,7 +34,7 @@ changed ms code x =
       source = x .source;
       level = x .level;
       side = x .side;
-      count = x .count;
+      taglen = x .taglen;
       tag = x .tag;
       left = ms;
       notice = code;
@@ -64,21 +70,20 @@ keeps-cond false p q = q
 keeps-closed : (action : ℕ) (x : Session) → Keeps x (closedBy action x)
 unfolding closedBy
 keeps-closed action x =
-    keeps-cond (eqb action expire) (keeps-owed 8 x) (keeps-cond (eqb action withdraw) (keeps-owed 9 x) (keeps-same x))
+    keeps-cond (eqb action nothing) (keeps-same x)
+    (keeps-cond (eqb action expire) (keeps-owed 8 x)
+    (keeps-cond (eqb action withdraw) (keeps-owed 9 x) (keeps-owed 255 x)))
 
-pub keeps-ticked : (passed : ℕ) (x : Session) → Keeps x (ticked passed x)
-unfolding ticked
-keeps-ticked passed x =
+pub keeps-swept : (sweep : Sweep) (x : Session) → Keeps x (swept sweep x)
+unfolding swept ticked managedBy
+keeps-swept (Ticked passed) x =
     keeps-cond (isOpen x)
     (keeps-cond (leb (x .left) passed)
     (keeps-closed (actionOf active timer-expiration) x)
     (keeps-lasting (x .left - passed) x (omega arith)))
     (keeps-same x)
-
-pub keeps-withdrawn : (flow : ℕ) (x : Session) → Keeps x (withdrawn flow x)
-unfolding withdrawn
-keeps-withdrawn flow x =
-    keeps-cond (isOpen x && eqb (x .flow) flow) (keeps-closed (actionOf active mgmt-prohibit) x) (keeps-same x)
+keeps-swept (Managed action flow) x =
+    keeps-cond (isOpen x && eqb (x .flow) flow) (keeps-closed action x) (keeps-same x)
 
 module _ {x y : Session} (k : Keeps x y) where
   pub kept-key : keyOf y ≡ keyOf x
@@ -94,5 +99,6 @@ module _ {x y : Session} (k : Keeps x y) where
         tag-fits = rw (k .tag-kept) (f .tag-fits);
       }
 
-pub kept-source : {x y z : Session} → Keeps x z → y ≡ z → x .source < 2 ^ 48 → y .source < 2 ^ 48
-kept-source k e h = rw (e, k .source-kept) h
+-- the row that x was read from has the key of what became of it
+pub kept-in : (l : List ℕ) {x y z : Session} → Keeps x z → y ≡ z → x ≡ sessionIn l → lowNumber 8 l ≡ keyOf y
+kept-in l k ey ex = sym (rw (ey, kept-key k, ex) (session-key-in l))

@@ -6,7 +6,7 @@ use native.Mathlib.Omega.{arith}
 use lib.ListN.{length, take, drop, replicate, length-drop, take-append-drop}
 use lib.Seq.{length-take-le}
 use borrow.Author.Tests.{eq-eqb, ne-eqb, le-ltb, lt-ltb}
-use Rattle.octets.specs.Octets.{lowOctets, splice, movedUp, movedDown}
+use Rattle.octets.specs.Octets.{lowNumber, lowOctets, splice, movedUp, movedDown}
 use Rattle.octets.proofs.Laws.{Octets}
 use Rattle.octets.proofs.LowLaws.{low-octets-length, octets-low-at}
 use Rattle.octets.proofs.Over.{then-splice}
@@ -33,6 +33,19 @@ row-written at x b fits ec ed =
     then-splice at (at + 8) k (drop 8 (sessionRow x)) b ec ed e (omega arith)
     ∙ ap (λ (w : List ℕ). splice at w b) (row-parts x)
 
+-- the key of the row stays
+module _ (at : ℕ) (x : Session) (b : List ℕ) (octets : Octets b) (fits : at + 32 ≤ length b)
+    (mine : lowNumber 8 (drop at b) ≡ keyOf x) where
+  key-there : b ≡ splice at (lowOctets 8 (keyOf x)) b
+  key-there =
+      let r : List ℕ = drop at b in
+      let some : 8 ≤ length r = omega (arith, length-drop at b, fits) in
+      let k : lowOctets 8 (keyOf x) ≡ take 8 r = rw (← mine) (octets-low-at at 8 b octets (omega (arith, fits))) in
+      rw (k, length-take-le 8 r some, take-append-drop 8 r, take-append-drop at b)
+
+  pub rest-written : {c : List ℕ} → c ≡ splice (at + 8) (drop 8 (sessionRow x)) b → c ≡ rowPut at x b
+  rest-written ec = row-written at x b fits key-there ec
+
 -- ---- a session is put; `row` is that of its key, or 0
 
 module _ (row : ℕ) (x : Session) (b : List ℕ) (er : row ≡ sessionAt (keyOf x) b) where
@@ -40,21 +53,12 @@ module _ (row : ℕ) (x : Session) (b : List ℕ) (er : row ≡ sessionAt (keyOf
   unfolding sessionPut
   put-new e put = rw (← er, eq-eqb row 0 e) put
 
-  module _ (octets : Octets b) (long : length b ≡ 4096) (more : row ≡ 0 → ⊥) where
-    -- the row has the octets of the key
-    key-there : b ≡ splice row (lowOctets 8 (keyOf x)) b
-    key-there =
-        let r : List ℕ = drop row b in
-        let fits : 8 ≤ length r = omega (arith, length-drop row b, session-fits b (keyOf x) er) in
-        let k : lowOctets 8 (keyOf x) ≡ take 8 r
-        = rw (← session-keyed b (keyOf x) er more) (octets-low-at row 8 b octets (omega (arith, fits, length-drop row b))) in
-        rw (k, length-take-le 8 r fits, take-append-drop 8 r, take-append-drop row b)
-
-    pub put-there : {c : List ℕ} → c ≡ splice (row + 8) (drop 8 (sessionRow x)) b → c ≡ sessionPut x b
-    unfolding sessionPut
-    put-there ec =
-        let fits : row + 32 ≤ length b = omega (arith, session-fits b (keyOf x) er) in
-        rw (← er, ne-eqb row 0 more) (row-written row x b fits key-there ec)
+  pub put-there : {c : List ℕ} → Octets b → length b ≡ 4096 → (row ≡ 0 → ⊥) → c ≡ splice (row + 8) (drop 8 (sessionRow x)) b
+      → c ≡ sessionPut x b
+  unfolding sessionPut
+  put-there octets long more ec =
+      let fits : row + 32 ≤ length b = omega (arith, session-fits b (keyOf x) er) in
+      rw (← er, ne-eqb row 0 more) (rest-written row x b octets fits (session-keyed b (keyOf x) er more) ec)
 
 -- ---- a session is put in; `at` is the place of its key
 

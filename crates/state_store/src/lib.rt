@@ -9,5 +9,4 @@ pub use head::set_clock;
 pub use session::put_session;
 pub use session::remove_session;
 pub use sessions::clear_sessions;
-pub use sessions::tick_sessions;
-pub use sessions::withdraw_sessions;
+pub use sessions::sweep_sessions;

@@ -1,5 +1,6 @@
 // The row of a session, written.
 use machine::Session;
+use machine::key;
 use octets::put_at;
 ghost use mathlib.Core.Path.{_≡_};
 ghost use Prim.Native.Nat.{_+_, _<_, _≤_, _^_};
@@ -9,12 +10,11 @@ ghost use Rattle.machine.specs.Machine.{keyOf};
 ghost use Rattle.state.specs.Image.{sessionRow};
 ghost use Rattle.state_store.specs.StoredRows.{rowPut};
 
-// Flow and source as one number.
 pub fn key_of(x: Session) -> u64
     requires { ⌜ x .source < 2 ^ 48 ⌝ }
     ensures { λ r. ⌜ r ≡ keyOf x ⌝ }
 {
-    x.flow as u64 * 281474976710656 + x.source
+    key(x.flow, x.source)
 }
 
 fn key_octets(x: Session) -> [u8; 8]
@@ -46,7 +46,7 @@ fn rest_octets(x: Session) -> [u8; 24]
         x.notice,
         x.level,
         x.side,
-        x.count,
+        x.taglen,
         (x.tag % 256) as u8,
         (x.tag / 256 % 256) as u8,
         (x.tag / 256 / 256 % 256) as u8,

@@ -7,6 +7,11 @@ use octets::clear;
 use octets::low8;
 use octets::move_down;
 use octets::move_up;
+use state::LAST_SESSION_AT;
+use state::MOST_SESSIONS;
+use state::SESSION_WIDTH;
+use state::SESSIONS_AT;
+use state::SESSIONS_END;
 ghost use mathlib.Core.Path.{_≡_};
 ghost use Prim.Native.Nat.{_<_, _≤_, _^_};
 ghost use lib.ListN.{length};
@@ -19,8 +24,8 @@ fn place_of(b: &[u8], key: u64) -> usize
     ensures { λ r. ⌜ r ≡ placeOf key (now (b .entry)) ⌝ }
 {
     let mut i: usize = 0;
-    while i < 16 {
-        let at = 1536 + i * 32;
+    while i < MOST_SESSIONS {
+        let at = SESSIONS_AT + i * SESSION_WIDTH;
         let k = low8(b, at);
         if k == 0 {
             return at;
@@ -30,7 +35,7 @@ fn place_of(b: &[u8], key: u64) -> usize
         }
         i += 1;
     }
-    2048
+    SESSIONS_END
 }
 
 // Puts in a session whose key has no row.
@@ -39,10 +44,10 @@ fn insert_session(b: &mut [u8], x: Session)
     ensures { λ _. ⌜ now (b .exit) ≡ sessionInserted x (now (b .entry)) ⌝ }
 {
     let at = place_of(b, key_of(x));
-    if 2048 <= at {
+    if SESSIONS_END <= at {
         return;
     }
-    move_up(b, 32, at, 2016);
+    move_up(b, SESSION_WIDTH, at, LAST_SESSION_AT);
     write_session(b, at, x);
 }
 
@@ -66,6 +71,6 @@ pub fn remove_session(b: &mut [u8], row: usize)
     if row == 0 {
         return;
     }
-    move_down(b, 32, row + 32, 2048);
-    clear(b, 2016, 2048);
+    move_down(b, SESSION_WIDTH, row + SESSION_WIDTH, SESSIONS_END);
+    clear(b, LAST_SESSION_AT, SESSIONS_END);
 }

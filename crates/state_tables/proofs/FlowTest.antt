@@ -32,13 +32,9 @@ module _ (b l : List ℕ) (last place odd marks : ℕ) {key : ℕ} (read : key �
 
     module _ {low : ℕ} {at : Bool} (good : set ≡ true) (first : low ≡ lowNumber 4 l)
         (placed : at ≡ placeFits b (place + 1) low) where
-      pub place-bad : at ≡ false → flowFits b (seen last place odd marks) l ≡ false
+      pub place-told : flowFits b (seen last place odd marks) l ≡ at
       unfolding flowFits
-      place-bad e = rw (← read, lt-ltb last key h, ← set-tested, good, ← first, ← placed, e)
-
-      pub flow-good : at ≡ true → flowFits b (seen last place odd marks) l ≡ true
-      unfolding flowFits
-      flow-good e = rw (← read, lt-ltb last key h, ← set-tested, good, ← first, ← placed, e)
+      place-told = rw (← read, lt-ltb last key h, ← set-tested, good, ← first, ← placed)
 
 -- what is known behind the row
 pub flow-seen : (l : List ℕ) (last place odd marks : ℕ) {key more mps levels : ℕ} → key ≡ lowNumber 4 (drop 4 l) → more ≡ oddOf l

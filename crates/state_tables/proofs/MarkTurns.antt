@@ -3,7 +3,7 @@ use mathlib.Core.Path.{_≡_, refl, sym}
 use mathlib.Core.Bool.{Bool, true, false, cond, _&&_, _||_, and-true, and-assoc}
 use mathlib.Core.List.{List}
 use Prim.Native.Nat.{ℕ, zero, suc, _+_, _<_, _≤_}
-use native.Mathlib.Nat.{add-zero, add-assoc}
+use native.Mathlib.Nat.{add-zero}
 use native.Mathlib.Numerals.{add-one}
 use native.Mathlib.Omega.{arith}
 use lib.Bits.{bitOr}
@@ -16,11 +16,6 @@ use Rattle.octets.proofs.Zero.{or-eqb}
 use Rattle.state_tables.specs.Pass.{okAllowed}
 
 -- n elements below i pass the test
-pub count-turn : (test : ℕ → Bool) (l : List ℕ) (i n : ℕ) → i < length l
-    → n + cond (test (getD l i 0)) 1 0 + count test (drop (i + 1) l) ≡ n + count test (drop i l)
-unfolding count
-count-turn test l i n h = simp (add-one, drop-cons l i 0 h, add-assoc)
-
 pub count-end : (test : ℕ → Bool) (l : List ℕ) (i n : ℕ) → length l ≤ i → n + count test (drop i l) ≡ n
 unfolding count
 count-end test l i n h = simp (drop-of-length-le l h, add-zero)

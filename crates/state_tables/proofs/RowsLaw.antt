@@ -17,7 +17,7 @@ use Rattle.state.specs.Image.{zeros, table, rowsIn}
 use Rattle.state.proofs.Cuts.{same-zeros}
 use Rattle.state.proofs.TableLaws.{none-table, rest-table}
 use Rattle.state_tables.specs.Pass.{okRows}
-use Rattle.state_tables.proofs.Tests.{and-left-comm}
+use Rattle.state_tables.proofs.Tests.{and-left-comm, and-swap}
 
 -- what the pass asks of the elements, each told what is known of those before it
 module _ {A S : Type 0} (fits : S → A → Bool) (next : S → A → S) (right : S → Bool) where
@@ -30,9 +30,6 @@ octets-take n l o i =
     by-le n i
     (λ e out. omega (arith, List·getD-eq-default (take n l) 0 {n = i} (omega (arith, length-take n l))))
     (λ e within. rw (getD-take n l i 0 within) (o i))
-
-swap : (f r p q : Bool) → (f && r && (p && q)) ≡ (f && p && (r && q))
-swap f r p q = simp (and-assoc, and-left-comm)
 
 pub same-parts : (a b l : List ℕ) → same (a ++ b) l ≡ (same a (take (length a) l) && same b (drop (length a) l))
 unfolding same
@@ -73,7 +70,7 @@ module _ {A S : Type 0} (read : List ℕ → A) (row : A → List ℕ) (width : 
       let xs : List A = rowsIn n width read (drop width l) in
       simp e
       (rw (ih, fit s l o long some, step s l o long some, first-row row width x xs l (wide l o long some))
-      (swap (fits s x) (same (row x) (take width l)) (passes fits next right (next s x) xs)
+      (and-swap (fits s x) (same (row x) (take width l)) (passes fits next right (next s x) xs)
       (same (table (length (drop width l)) row xs) (drop width l)))))
 
 -- where all that is known of those before is the last key

@@ -1,6 +1,6 @@
 -- A number's octets summed by pairs, and then by fours.
 use mathlib.Core.Path.{_≡_, _∙_}
-use Prim.Native.Nat.{ℕ, zero, suc, _+_, _*_, _/_, _%_, _^_, _<_, _≤_}
+use Prim.Native.Nat.{ℕ, zero, suc, _+_, _*_, _/_, _%_, _<_, _≤_}
 use native.Mathlib.Nat.{mod-eq-of-lt, div-eq-of-lt, add-mul-div-right, add-mul-mod-self-right}
 use native.Mathlib.Omega.{arith}
 use lib.Bits.{bitAnd, and-mask, and-zero-r, and-le-r}

@@ -1,11 +1,14 @@
 -- Laws of tests joined by `&&`.
 use mathlib.Core.Path.{_≡_, refl, sym}
-use mathlib.Core.Bool.{Bool, true, false, _&&_}
+use mathlib.Core.Bool.{Bool, true, false, _&&_, and-assoc}
 
 pub and-left-comm : (a b c : Bool) → (a && (b && c)) ≡ (b && (a && c))
 and-left-comm true b c = refl
 and-left-comm false true c = refl
 and-left-comm false false c = refl
+
+pub and-swap : (a b c d : Bool) → (a && b && (c && d)) ≡ (a && c && (b && d))
+and-swap a b c d = simp (and-assoc, and-left-comm)
 
 -- a test behind one that has passed
 pub and-when : (a : Bool) {b c : Bool} → (a ≡ true → b ≡ c) → (a && b) ≡ (a && c)

@@ -18,6 +18,10 @@ unfolding allZero
 zero-parts [] b = refl
 zero-parts (x ∷ a) b = rw (zero-parts a b) (simp and-assoc)
 
+pub zero-cut : (at m n : ℕ) (l : List ℕ)
+    → allZero (take (m + n) (drop at l)) ≡ (allZero (take m (drop at l)) && allZero (take n (drop (at + m) l)))
+zero-cut at m n l = rw (take-on, zero-parts)
+
 run-rest : (at n : ℕ) (l : List ℕ) → allZero (drop at l) ≡ (allZero (take n (drop at l)) && allZero (drop (at + n) l))
 run-rest at n l =
     let both : _ = zero-parts (take n (drop at l)) (drop n (drop at l)) in
@@ -27,10 +31,10 @@ run-rest at n l =
 module _ (at n m : ℕ) (l : List ℕ) {k : ℕ} {X : Bool} (inv : allZero (take (n + m) (drop at l)) ≡ X)
     (read : k ≡ lowNumber n (drop at l)) where
   pub head-next : k ≡ 0 → allZero (take m (drop (at + n) l)) ≡ X
-  head-next e = rw (take-on, zero-parts, ← low-zero, ← read, e) at inv
+  head-next e = rw (zero-cut, ← low-zero, ← read, e) at inv
 
   pub head-bad : (k ≡ 0 → ⊥) → false ≡ X
-  head-bad e = rw (take-on, zero-parts, ← low-zero, ← read, ne-eqb k 0 e) at inv
+  head-bad e = rw (zero-cut, ← low-zero, ← read, ne-eqb k 0 e) at inv
 
 -- from each place from `at` to `i` on, all octets are zero when those from `at` on are
 abbrev pub SameFrom : (at i : ℕ) (t : List ℕ) → Type 0
@@ -52,7 +56,7 @@ module _ (t : List ℕ) (at i n : ℕ) {r : Bool} (h : at ≤ i) (same : SameFro
   front e m f =
       let cut : m + (n - m) ≡ n = omega arith in
       let all : allZero (take (m + (n - m)) (drop i t)) ≡ true = rw cut (sym known ∙ e) in
-      both-true (allZero (take m (drop i t))) (allZero (take (n - m) (drop (i + m) t))) (rw (take-on, zero-parts) at all) .0
+      both-true (allZero (take m (drop i t))) (allZero (take (n - m) (drop (i + m) t))) (rw zero-cut at all) .0
 
   behind : r ≡ true → (j : ℕ) → i ≤ j → j ≤ i + n → allZero (drop j t) ≡ allZero (drop at t)
   behind e j f g =

@@ -2,13 +2,15 @@
 -- believe stands in the rooms `plan` and `state`; the laws in proofs/ say that this test and the rules there agree.
 use mathlib.Core.List.{List, [], _∷_}
 use mathlib.Core.Bool.{Bool, true, cond, _&&_, _||_, not}
-use Prim.Native.Nat.{ℕ, zero, suc, _+_, _*_, _/_, _%_, _^_}
+use Prim.Native.Nat.{ℕ, zero, suc, _+_, _-_, _*_, _/_, _%_, _^_}
 use lib.Bits.{bitAnd, bitOr}
 use lib.ListN.{getD, take, drop}
 use lib.Dec.{eqb, ltb, leb}
 use Rattle.octets.specs.Octets.{lowNumber, allZero}
 use Rattle.octets.specs.Lists.{within, count}
 use Rattle.plan.specs.Plan.{portNumbered, goodPort}
+use Rattle.state.specs.Layout.{placesAt, mostPorts, mostFlows, portWidth, flowWidth}
+use Rattle.state.specs.Layout.{portNumberAt, flowVidAt, flowPortAt, flowMpsAt}
 use Rattle.state.specs.Image.{portIn, stateOf}
 
 -- Do at most n rows of so many octets pass, each told what is known of those before it, is what is known at the end right, and is
@@ -20,10 +22,10 @@ module _ {S : Type 0} (fits : S → List ℕ → Bool) (next : S → List ℕ �
 
 -- ports: of those before is known the last number
 unfoldable pub portFits : ℕ → List ℕ → Bool
-portFits last l = ltb last (getD l 7 0) && goodPort (portIn l) && allZero (take 8 (drop 8 l))
+portFits last l = ltb last (getD l portNumberAt 0) && goodPort (portIn l) && allZero (take 8 (drop 8 l))
 
 unfoldable pub okPorts : List ℕ → Bool
-okPorts t = okRows portFits (λ last l. getD l 7 0) (leb 1) 16 8 0 t
+okPorts t = okRows portFits (λ last l. getD l portNumberAt 0) (leb 1) portWidth mostPorts 0 t
 
 -- flows: the last port and set as one number; how many rows; what is odd in them, all octets together; and their marks
 pub record Seen : Type 0 where
@@ -38,7 +40,7 @@ noneSeen = record { last = 0; place = 0; odd = 0; marks = 0 }
 -- the bits that no row has: those above 3 of an MP's octet, and the free octets behind them
 unfoldable pub oddOf : List ℕ → ℕ
 oddOf l =
-    bitOr (bitOr (bitAnd (lowNumber 8 (drop 8 l)) 0xFCFCFCFCFCFCFCFC) (lowNumber 8 (drop 16 l))) (lowNumber 8 (drop 24 l))
+    bitOr (bitOr (bitAnd (lowNumber 8 (drop flowMpsAt l)) 0xFCFCFCFCFCFCFCFC) (lowNumber 8 (drop 16 l))) (lowNumber 8 (drop 24 l))
 
 -- an octet of 4 for each level that has an MP, if none of them is odd
 unfoldable pub marksOf : ℕ → ℕ
@@ -55,30 +57,30 @@ setFits portKind set =
 
 -- the number, alone in its four octets, leads to this place
 unfoldable pub placeFits : List ℕ → ℕ → ℕ → Bool
-placeFits b place low = eqb (low % 256) 0 && within 1 32 (low / 256) && eqb (getD b (63 + low / 256) 0) place
+placeFits b place low = eqb (low % 256) 0 && within 1 mostFlows (low / 256) && eqb (getD b (placesAt - 1 + low / 256) 0) place
 
 unfoldable pub flowFits : List ℕ → Seen → List ℕ → Bool
 flowFits b s l =
-    ltb (s .last) (lowNumber 4 (drop 4 l))
-    && setFits (portNumbered (getD l 7 0) (stateOf b .plan) .kind) (lowNumber 4 (drop 4 l) % 2 ^ 24)
+    ltb (s .last) (lowNumber 4 (drop flowVidAt l))
+    && setFits (portNumbered (getD l flowPortAt 0) (stateOf b .plan) .kind) (lowNumber 4 (drop flowVidAt l) % 2 ^ 24)
     && placeFits b (s .place + 1) (lowNumber 4 l)
 
 unfoldable pub flowSeen : Seen → List ℕ → Seen
 flowSeen s l =
     record {
-      last = lowNumber 4 (drop 4 l);
+      last = lowNumber 4 (drop flowVidAt l);
       place = s .place + 1;
       odd = bitOr (s .odd) (oddOf l);
-      marks = s .marks + marksOf (lowNumber 8 (drop 8 l));
+      marks = s .marks + marksOf (lowNumber 8 (drop flowMpsAt l));
     }
 
 -- Nothing is odd, there are at most 32 MPs, and as many places are used as there are rows.
 unfoldable pub flowsRight : List ℕ → Seen → Bool
 flowsRight b s =
-    eqb (s .odd) 0 && leb (octetSum 8 (s .marks)) 128 && eqb (s .place) (count (leb 1) (take 32 (drop 64 b)))
+    eqb (s .odd) 0 && leb (octetSum 8 (s .marks)) 128 && eqb (s .place) (count (leb 1) (take mostFlows (drop placesAt b)))
 
 unfoldable pub okFlows : List ℕ → List ℕ → Bool
-okFlows b t = okRows (flowFits b) flowSeen (flowsRight b) 32 32 noneSeen t
+okFlows b t = okRows (flowFits b) flowSeen (flowsRight b) flowWidth mostFlows noneSeen t
 
 -- allowed flows: each octet is 0, or 1 beside a place
 unfoldable pub okAllowed : List ℕ → List ℕ → Bool

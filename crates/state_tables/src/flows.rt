@@ -1,8 +1,21 @@
 // The flows' rows of an image: are they right? Nothing is compared twice: rows ascend, and each number leads back to its row.
 use crate::marks::used;
+use crate::rest::LONG_RUN;
 use crate::rest::rest_zero;
 use octets::low4;
 use octets::low8;
+use state::FLOW_FREE_AT;
+use state::FLOW_LATER_FREE_AT;
+use state::FLOW_MPS_AT;
+use state::FLOW_PORT_AT;
+use state::FLOW_VID_AT;
+use state::FLOW_WIDTH;
+use state::LAST_FLOW;
+use state::MOST_FLOWS;
+use state::PLACES_AT;
+use state::PLACES_BEFORE;
+use state::PLACES_END;
+use state::PORT_KIND_AT;
 use state::port_at;
 use state::wide;
 ghost use mathlib.Core.Path.{_≡_};
@@ -15,11 +28,16 @@ ghost use Rattle.plan.specs.Plan.{portNumbered};
 ghost use Rattle.state.specs.Image.{stateOf};
 ghost use Rattle.state_tables.specs.Pass.{oddOf, marksOf, octetSum, setFits, placeFits, okFlows};
 
+// 4 for each of 32 MPs.
+const MOST_MARKS: u64 = 128;
+
 fn odd_of(t: &[u8], at: usize) -> u64
     requires { ⌜ at + 32 ≤ length (now t) ⌝ }
     ensures { λ r. ⌜ r ≡ oddOf (drop at (now (t .entry))) ⌝ }
 {
-    low8(t, at + 8) & 0xFCFCFCFCFCFCFCFC | low8(t, at + 16) | low8(t, at + 24)
+    low8(t, at + FLOW_MPS_AT) & 0xFCFCFCFCFCFCFCFC
+        | low8(t, at + FLOW_FREE_AT)
+        | low8(t, at + FLOW_LATER_FREE_AT)
 }
 
 fn marks_of(mps: u64) -> u64
@@ -45,7 +63,7 @@ fn kind_of(b: &[u8], port: u8) -> u8
     if at == 0 {
         return 0;
     }
-    b[at + 6]
+    b[at + PORT_KIND_AT]
 }
 
 // The same, if the kind of the row before is known.
@@ -86,10 +104,10 @@ fn place_fits(b: &[u8], place: usize, low: u32) -> bool
     if number < 1 {
         return false;
     }
-    if 32 < number {
+    if LAST_FLOW < number {
         return false;
     }
-    wide(b[63 + number as usize]) == place
+    wide(b[PLACES_BEFORE + number as usize]) == place
 }
 
 // The places are counted beside the comparison: there the compiler counts all of them at once.
@@ -104,10 +122,10 @@ fn marks_fit(b: &[u8], odd: u64, marks: u64, rows: usize) -> bool
     if odd != 0 {
         return false;
     }
-    if 128 < octet_sum(marks) {
+    if MOST_MARKS < octet_sum(marks) {
         return false;
     }
-    rows == used(&b[64..96])
+    rows == used(&b[PLACES_AT..PLACES_END])
 }
 
 pub fn flows_fit(b: &[u8], t: &[u8]) -> bool
@@ -118,27 +136,27 @@ pub fn flows_fit(b: &[u8], t: &[u8]) -> bool
     let mut last: u32 = 0;
     let mut odd: u64 = 0;
     let mut marks: u64 = 0;
-    let mut port = t[7];
+    let mut port = t[FLOW_PORT_AT];
     let mut kind = kind_of(b, port);
-    while i < 32 {
-        let at = i * 32;
+    while i < MOST_FLOWS {
+        let at = i * FLOW_WIDTH;
         if low8(t, at) == 0 {
             if marks_fit(b, odd, marks, i) {
-                return rest_zero(t, at, 256);
+                return rest_zero(t, at, LONG_RUN);
             }
             return false;
         }
-        let key = low4(t, at + 4);
+        let key = low4(t, at + FLOW_VID_AT);
         if key <= last {
             return false;
         }
         last = key;
-        kind = kind_again(b, port, kind, t[at + 7]);
-        port = t[at + 7];
+        kind = kind_again(b, port, kind, t[at + FLOW_PORT_AT]);
+        port = t[at + FLOW_PORT_AT];
         if set_fits(kind, key % 16777216) {
             if place_fits(b, i + 1, low4(t, at)) {
                 odd = odd | odd_of(t, at);
-                marks += marks_of(low8(t, at + 8));
+                marks += marks_of(low8(t, at + FLOW_MPS_AT));
                 i += 1;
             } else {
                 return false;

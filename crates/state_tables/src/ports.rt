@@ -1,9 +1,14 @@
 // The ports' rows of an image: are they right?
+use crate::rest::SHORT_RUN;
 use crate::rest::rest_zero;
-use codec::is_group;
 use octets::low6;
 use octets::low8;
 use plan::Port;
+use plan::good_address;
+use state::MOST_PORTS;
+use state::PORT_FREE_AT;
+use state::PORT_NUMBER_AT;
+use state::PORT_WIDTH;
 use state::read_port;
 ghost use mathlib.Core.Path.{_≡_};
 ghost use mathlib.Core.List.{map};
@@ -11,18 +16,9 @@ ghost use Prim.Native.Nat.{_+_, _-_, _*_, _<_, _≤_, _^_};
 ghost use lib.Dec.{eqb};
 ghost use lib.ListN.{length, drop};
 ghost use Rattle.octets.specs.Lists.{some, distinct};
-ghost use Rattle.plan.specs.Plan.{goodAddress, goodPort};
+ghost use Rattle.plan.specs.Plan.{goodPort};
 ghost use Rattle.state.specs.Image.{portIn, rowsIn};
 ghost use Rattle.state_tables.specs.Pass.{portFits, okPorts};
-
-fn good_address(address: u64) -> bool
-    ensures { λ r. ⌜ r ≡ goodAddress address ⌝ }
-{
-    if is_group(address) {
-        return false;
-    }
-    address != 0
-}
 
 fn good_port(p: Port) -> bool
     requires { ⌜ p .address < 2 ^ 48 ⌝ }
@@ -52,7 +48,7 @@ fn port_fits(t: &[u8], at: usize, last: u8) -> bool
         return false;
     }
     if good_port(p) {
-        return low8(t, at + 8) == 0;
+        return low8(t, at + PORT_FREE_AT) == 0;
     }
     false
 }
@@ -63,16 +59,16 @@ pub fn ports_fit(t: &[u8]) -> bool
 {
     let mut i: usize = 0;
     let mut last: u8 = 0;
-    while i < 8 {
-        let at = i * 16;
+    while i < MOST_PORTS {
+        let at = i * PORT_WIDTH;
         if low8(t, at) == 0 {
             if last == 0 {
                 return false;
             }
-            return rest_zero(t, at, 64);
+            return rest_zero(t, at, SHORT_RUN);
         }
         if port_fits(t, at, last) {
-            last = t[at + 7];
+            last = t[at + PORT_NUMBER_AT];
             i += 1;
         } else {
             return false;
@@ -89,8 +85,8 @@ fn address_again(t: &[u8], from: usize, address: u64) -> bool
         ⌝ }
 {
     let mut i = from;
-    while i < 8 {
-        let at = i * 16;
+    while i < MOST_PORTS {
+        let at = i * PORT_WIDTH;
         if low8(t, at) == 0 {
             return false;
         }
@@ -107,8 +103,8 @@ pub fn addresses_differ(t: &[u8]) -> bool
     ensures { λ r. ⌜ r ≡ distinct (map (λ p. p .address) (rowsIn 8 16 portIn (now (t .entry)))) ⌝ }
 {
     let mut i: usize = 0;
-    while i < 8 {
-        let at = i * 16;
+    while i < MOST_PORTS {
+        let at = i * PORT_WIDTH;
         if low8(t, at) == 0 {
             return true;
         }

@@ -1,6 +1,6 @@
 -- The definition of validity, part by part, for octets of the length of an image.
-use mathlib.Core.Path.{_≡_, _∙_}
-use mathlib.Core.Bool.{true, _&&_, and-true}
+use mathlib.Core.Path.{_≡_, sym, ap, _∙_}
+use mathlib.Core.Bool.{true, _&&_, and-true, and-assoc}
 use mathlib.Core.List.{List, map}
 use Prim.Native.Nat.{ℕ, _+_, _^_, _<_, _≤_}
 use native.Mathlib.Omega.{arith}
@@ -18,9 +18,12 @@ use Rattle.plan.specs.Plan.{Plan, keepsRules}
 use Rattle.state.specs.State.{State, valid, onlyFlows, goodSession}
 use Rattle.state.specs.Image.{zeros, portRow, flowRow, sessionRow, table, rowsIn, places, bit}
 use Rattle.state.specs.Image.{portIn, flowIn, sessionIn, stateOf, okImage}
+use Rattle.state.specs.Image.{unitFlag, sharedAddress, portsOpen, behindPlaces, portCounters, flowsOpen, behindSessions}
+use Rattle.state.proofs.BaseParts.{Bare, bare}
 use Rattle.state.proofs.Cuts.{same-zeros}
 use Rattle.state.proofs.TableLaws.{rows-few, rows-within, port-within, flow-within, session-within}
 use Rattle.state.proofs.Sizes.{Sized}
+use Rattle.state_tables.proofs.ZeroLaws.{zero-cut}
 use Rattle.state_valid.proofs.ReadSizes.{read-size, port-wide, flow-wide, session-wide}
 use Rattle.state_valid.proofs.SameImage.{same-image}
 
@@ -43,6 +46,9 @@ module _ (l : List ℕ) (o : Octets l) (long : length l ≡ 4096) where
   unfolding stateOf
   sessions-read = rows-within 16 32 512 sessionIn (omega arith) session-within (drop 1536 l) (omega arith)
 
+  none : Bare s
+  none = bare s
+
   rest-long : (at n : ℕ) → at + n ≤ 4096 → n ≤ length (drop at l)
   rest-long at n h = rw length-drop (omega arith)
 
@@ -57,22 +63,18 @@ module _ (l : List ℕ) (o : Octets l) (long : length l ≡ 4096) where
         ports-size = read-size portRow portIn 16 port-wide 8 128 (drop 128 l) (rest-long 128 128 (omega arith)) (omega arith);
         flows-size = read-size flowRow flowIn 32 flow-wide 32 1024 (drop 256 l) (rest-long 256 1024 (omega arith)) (omega arith);
         sessions-size =
-            read-size sessionRow sessionIn 32 session-wide 16 2560 (drop 1536 l) (rest-long 1536 512 (omega arith)) (omega arith);
+            read-size sessionRow sessionIn 32 session-wide 16 512 (drop 1536 l) (rest-long 1536 512 (omega arith)) (omega arith);
       }
 
-  rows-fit : length (table 512 sessionRow (s .sessions)) ≡ 512
-  unfolding stateOf
-  rows-fit = read-size sessionRow sessionIn 32 session-wide 16 512 (drop 1536 l) (rest-long 1536 512 (omega arith)) (omega arith)
-
-  zero-part : (at n : ℕ) → at + n ≤ 4096 → same (zeros n) (take n (drop at l)) ≡ allZero (take n (drop at l))
+  -- a part that is 0 in a unit of the base
+  zero-part : (p : List ℕ) (at n : ℕ) → p ≡ zeros n → at + n ≤ 4096 → same p (take n (drop at l)) ≡ allZero (take n (drop at l))
   unfolding zeros
-  zero-part at n h = same-zeros n (take n (drop at l)) (part-long at n h)
+  zero-part p at n e h = rw e (same-zeros n (take n (drop at l)) (part-long at n h))
 
-  zero-end : same (zeros 2048) (drop 2048 l) ≡ allZero (take 2048 (drop 2048 l))
-  unfolding zeros
+  zero-end : same (behindSessions s) (drop 2048 l) ≡ allZero (take 2048 (drop 2048 l))
   zero-end =
-      let e : length (drop 2048 l) ≡ 2048 = rw length-drop (omega arith) in
-      rw (take-all 2048 (drop 2048 l) (omega arith)) (same-zeros 2048 (drop 2048 l) e)
+      let all : take 2048 (drop 2048 l) ≡ drop 2048 l = take-all 2048 (drop 2048 l) (rw length-drop (omega arith)) in
+      ap (same (behindSessions s)) (sym all) ∙ zero-part (behindSessions s) 2048 2048 (none .behind-sessions) (omega arith)
 
   clock-same : same (lowOctets 4 (s .clock)) (take 4 l) ≡ true
   unfolding stateOf
@@ -102,15 +104,20 @@ module _ (l : List ℕ) (o : Octets l) (long : length l ≡ 4096) where
       && allZero (take 2048 (drop 2048 l)))))))))))
   unfolding okImage valid
   image-law =
-      simp (
-        same-image s l sizes rows-fit,
+      rw (zero-cut 4 4 24 l, zero-cut 8 8 16 l, zero-cut 1280 192 64 l)
+      (simp (
+        same-image s l sizes,
         clock-same,
-        zero-part 4 28 (omega arith),
-        zero-part 96 32 (omega arith),
-        zero-part 1280 256 (omega arith),
+        zero-part (unitFlag s) 4 4 (none .flag) (omega arith),
+        zero-part (sharedAddress s) 8 8 (none .shared) (omega arith),
+        zero-part (portsOpen s) 16 16 (none .ports-open) (omega arith),
+        zero-part (behindPlaces s) 96 32 (none .behind-places) (omega arith),
+        zero-part (portCounters s) 1280 192 (none .counters) (omega arith),
+        zero-part (flowsOpen s) 1472 64 (none .flows-open) (omega arith),
         zero-end,
         lt-ltb (s .clock) (2 ^ 32) clock-fits,
         eq-eqb (length (s .allowed)) 32 (sizes .allowed-size),
         le-leb (length (s .sessions)) 16 sessions-few,
         and-true,
-      )
+        and-assoc,
+      ))

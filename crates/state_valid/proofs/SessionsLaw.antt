@@ -1,32 +1,27 @@
 -- The pass over the sessions' rows: each session read is tested as the definition has it, through the place of its flow.
 use mathlib.Core.Path.{_≡_, refl, sym}
 use mathlib.Core.Bool.{Bool, true, false, _&&_, and-true}
-use mathlib.Core.List.{List, [], _∷_, map}
-use Prim.Native.Nat.{ℕ, zero, suc, _+_, _-_, _^_, _<_, _≤_}
+use mathlib.Core.List.{List}
+use Prim.Native.Nat.{ℕ, _+_, _^_, _<_, _≤_}
 use native.Mathlib.Omega.{arith}
 use lib.Dec.{eqb, ltb}
 use lib.ListN.{length, getD, take, drop}
-use lib.Seq.{getD-drop, getD-take}
 use borrow.Author.Tests.{lt-ltb}
 use Rattle.octets.specs.Octets.{lowNumber, same}
 use Rattle.octets.specs.Lists.{within, every, ascends}
 use Rattle.octets.proofs.LowLaws.{low-fits}
-use Rattle.octets.proofs.ListLaws.{eqb-turn, within-low, within-high}
+use Rattle.octets.proofs.ListLaws.{within-low, within-high}
 use Rattle.octets.proofs.Laws.{Octets}
 use Rattle.machine.specs.declared.Session.{Session}
 use Rattle.machine.specs.Machine.{keyOf}
 use Rattle.plan.specs.Plan.{Plan, flowNumbered, inPlan}
 use Rattle.state.specs.State.{isAllowed, goodSession}
 use Rattle.state.specs.Image.{sessionRow, table, rowsIn, places, sessionIn, stateOf}
+use Rattle.state.proofs.RowAnswers.{allowed-at}
 use Rattle.state.proofs.RowLaws.{session-exact, session-key-in, session-length}
 use Rattle.state.proofs.PlaceLaws.{numbered-flow, numbered-none, numbered-within}
 use Rattle.state_tables.proofs.RowsLaw.{rows-law, keys-law}
 use Rattle.state_valid.specs.Sessions.{goodIn, sessionFits, okSessions}
-
-ones-at : (l : List ℕ) (i : ℕ) → getD (map (eqb 1) l) i false ≡ eqb 1 (getD l i 0)
-ones-at [] i = refl
-ones-at (x ∷ l) zero = refl
-ones-at (x ∷ l) (suc i) = ones-at l i
 
 source-fits : (l : List ℕ) → Octets l → sessionIn l .source < 2 ^ 48
 unfolding sessionIn
@@ -40,11 +35,7 @@ module _ (b : List ℕ)
 
   allowed-octet : (n : ℕ) → 1 ≤ n → n ≤ 32 → eqb (getD b (31 + n) 0) 1 ≡ isAllowed n (stateOf b)
   unfolding isAllowed stateOf
-  allowed-octet n low high =
-      let e : 32 + (n - 1) ≡ 31 + n = omega arith in
-      let i : n - 1 < 32 = omega arith in
-      rw (ones-at (take 32 (drop 32 b)) (n - 1), getD-take 32 (drop 32 b) (n - 1) 0 i, getD-drop, e)
-      (eqb-turn (getD b (31 + n) 0) 1)
+  allowed-octet n low high = allowed-at b n low high
 
   pub good-in : (x : Session) → x .source < 2 ^ 48 → goodIn b x ≡ goodSession (stateOf b) x
   unfolding goodIn goodSession

@@ -3,6 +3,19 @@ use crate::sessions::sessions_fit;
 use octets::all_zero;
 use octets::low4;
 use octets::low8;
+use state::ALLOWED_AT;
+use state::FLOWS_AT;
+use state::IMAGE_LENGTH;
+use state::LATER_PORTS_OPEN_AT;
+use state::PLACES_AT;
+use state::PLACES_END;
+use state::PORT_COUNTERS_AT;
+use state::PORTS_AT;
+use state::PORTS_OPEN_AT;
+use state::SESSIONS_AT;
+use state::SESSIONS_END;
+use state::SHARED_ADDRESS_AT;
+use state::UNIT_FLAG_AT;
 use state_tables::addresses_differ;
 use state_tables::allowed_fits;
 use state_tables::flows_fit;
@@ -21,16 +34,16 @@ fn head_zero(b: &[u8]) -> bool
     requires { ⌜ length (now b) ≡ 4096 ⌝ }
     ensures { λ r. ⌜ r ≡ allZero (take 28 (drop 4 (now (b .entry)))) ⌝ }
 {
-    if low4(b, 4) != 0 {
+    if low4(b, UNIT_FLAG_AT) != 0 {
         return false;
     }
-    if low8(b, 8) != 0 {
+    if low8(b, SHARED_ADDRESS_AT) != 0 {
         return false;
     }
-    if low8(b, 16) != 0 {
+    if low8(b, PORTS_OPEN_AT) != 0 {
         return false;
     }
-    low8(b, 24) == 0
+    low8(b, LATER_PORTS_OPEN_AT) == 0
 }
 
 // Are the octets 0 that have no meaning yet, before and behind the flows' marks and before and behind the sessions?
@@ -44,9 +57,9 @@ fn free_zero(b: &[u8]) -> bool
         ⌝ }
 {
     if head_zero(b) {
-        if all_zero(&b[96..128]) {
-            if all_zero(&b[1280..1536]) {
-                return all_zero(&b[2048..4096]);
+        if all_zero(&b[PLACES_END..PORTS_AT]) {
+            if all_zero(&b[PORT_COUNTERS_AT..SESSIONS_AT]) {
+                return all_zero(&b[SESSIONS_END..IMAGE_LENGTH]);
             }
         }
     }
@@ -61,9 +74,9 @@ fn plan_fits(b: &[u8]) -> bool
         && okFlows (now (b .entry)) (take 1024 (drop 256 (now (b .entry)))))
         ⌝ }
 {
-    if ports_fit(&b[128..256]) {
-        if addresses_differ(&b[128..256]) {
-            return flows_fit(b, &b[256..1280]);
+    if ports_fit(&b[PORTS_AT..FLOWS_AT]) {
+        if addresses_differ(&b[PORTS_AT..FLOWS_AT]) {
+            return flows_fit(b, &b[FLOWS_AT..PORT_COUNTERS_AT]);
         }
     }
     false
@@ -72,13 +85,13 @@ fn plan_fits(b: &[u8]) -> bool
 pub fn is_image(b: &[u8]) -> bool
     ensures { λ r. ⌜ r ≡ okImage (now (b .entry)) ⌝ }
 {
-    if b.len() != 4096 {
+    if b.len() != IMAGE_LENGTH {
         return false;
     }
     if free_zero(b) {
         if plan_fits(b) {
-            if allowed_fits(&b[32..64], &b[64..96]) {
-                return sessions_fit(b, &b[1536..2048]);
+            if allowed_fits(&b[ALLOWED_AT..PLACES_AT], &b[PLACES_AT..PLACES_END]) {
+                return sessions_fit(b, &b[SESSIONS_AT..SESSIONS_END]);
             }
         }
     }

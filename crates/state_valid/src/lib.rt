@@ -3,4 +3,3 @@ mod image;
 mod sessions;
 
 pub use image::is_image;
-pub use sessions::faces;

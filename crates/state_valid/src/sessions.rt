@@ -1,11 +1,27 @@
 // The sessions' rows of an image: are they right?
+use codec::C_TAG;
+use codec::C_TAGGED;
+use codec::S_TAG;
+use codec::TAG_LENGTH;
+use codec::UNTAGGED;
+use codec::VIDS;
 use codec::is_group;
+use machine::PROHIBITED;
 use machine::Session;
+use machine::TIMEOUT;
 use octets::low2;
 use octets::low8;
+use plan::faces;
+use state::ALLOWED_BEFORE;
+use state::FLOW_KIND_AT;
+use state::FLOW_VID_AT;
+use state::MOST_SESSIONS;
+use state::SESSION_FREE_AT;
+use state::SESSION_WIDTH;
 use state::mp_of;
 use state::numbered_at;
 use state::read_session;
+use state_tables::LONG_RUN;
 use state_tables::rest_zero;
 ghost use mathlib.Core.Path.{_≡_};
 ghost use mathlib.Core.Bool.{cond, _&&_, not};
@@ -18,49 +34,34 @@ ghost use Rattle.state.specs.State.{goodTime};
 ghost use Rattle.state.specs.Rows.{flowOfRow};
 ghost use Rattle.state_valid.specs.Sessions.{goodIn, sessionFits, okSessions};
 
-pub fn faces(mp: u8, side: u8) -> bool
-    ensures { λ r. ⌜ r ≡ faces mp side ⌝ }
-{
-    if side == 1 {
-        if mp == 1 {
-            return true;
-        }
-        return mp == 3;
-    }
-    if side == 0 {
-        if mp == 2 {
-            return true;
-        }
-        return mp == 3;
-    }
-    false
-}
+// The milliseconds of a day.
+const DAY: u32 = 86400000;
 
 fn tag_type(kind: u8) -> u64
     ensures { λ r. ⌜ r ≡ cond (eqb kind c-tagged) c-tag s-tag ⌝ }
 {
-    if kind == 2 {
-        return 0x8100;
+    if kind == C_TAGGED {
+        return C_TAG as u64;
     }
-    0x88A8
+    S_TAG as u64
 }
 
-fn tag_fits(kind: u8, vid: u16, count: u8, tag: u64) -> bool
-    ensures { λ r. ⌜ r ≡ tagFits (setOf kind vid) count tag ⌝ }
+fn tag_fits(kind: u8, vid: u16, taglen: u8, tag: u64) -> bool
+    ensures { λ r. ⌜ r ≡ tagFits (setOf kind vid) taglen tag ⌝ }
 {
-    if kind == 1 {
-        if count == 0 {
+    if kind == UNTAGGED {
+        if taglen == 0 {
             return tag == 0;
         }
         return false;
     }
-    if count != 4 {
+    if taglen != TAG_LENGTH as u8 {
         return false;
     }
     if tag / 65536 != tag_type(kind) {
         return false;
     }
-    tag % 4096 == vid as u64
+    tag % VIDS as u64 == vid as u64
 }
 
 fn good_time(allowed: bool, x: Session) -> bool
@@ -71,7 +72,7 @@ fn good_time(allowed: bool, x: Session) -> bool
             if x.left < 1 {
                 return false;
             }
-            return x.left <= 86400000;
+            return x.left <= DAY;
         }
         return false;
     }
@@ -79,9 +80,9 @@ fn good_time(allowed: bool, x: Session) -> bool
         return false;
     }
     if allowed {
-        return x.notice == 8;
+        return x.notice == TIMEOUT;
     }
-    x.notice == 9
+    x.notice == PROHIBITED
 }
 
 // Has the session an MP, a tag and time as it must?
@@ -89,7 +90,7 @@ fn good_at(b: &[u8], row: usize, x: Session) -> bool
     requires { ⌜ (length (now b) ≡ 4096) × ((1 ≤ row) × ((row + 32 ≤ 4096) × (x .flow ≤ 32))) ⌝ }
     ensures { λ r. ⌜ r
         ≡ (not (group (x .source))
-        && tagFits (setOf (flowOfRow row (now (b .entry)) .kind) (flowOfRow row (now (b .entry)) .vid)) (x .count) (x .tag)
+        && tagFits (setOf (flowOfRow row (now (b .entry)) .kind) (flowOfRow row (now (b .entry)) .vid)) (x .taglen) (x .tag)
         && faces (mpAt (x .level) (flowOfRow row (now (b .entry)))) (x .side)
         && goodTime (eqb (getD (now (b .entry)) (31 + x .flow) 0) 1) x)
         ⌝ }
@@ -97,9 +98,14 @@ fn good_at(b: &[u8], row: usize, x: Session) -> bool
     if is_group(x.source) {
         return false;
     }
-    if tag_fits(b[row + 6], low2(b, row + 4), x.count, x.tag) {
+    if tag_fits(
+        b[row + FLOW_KIND_AT],
+        low2(b, row + FLOW_VID_AT),
+        x.taglen,
+        x.tag,
+    ) {
         if faces(mp_of(b, row, x.level), x.side) {
-            return good_time(b[31 + x.flow as usize] == 1, x);
+            return good_time(b[ALLOWED_BEFORE + x.flow as usize] == 1, x);
         }
     }
     false
@@ -124,7 +130,7 @@ fn session_fits(b: &[u8], t: &[u8], at: usize, last: u64) -> bool
         return false;
     }
     if good_in(b, read_session(t, at)) {
-        return low8(t, at + 24) == 0;
+        return low8(t, at + SESSION_FREE_AT) == 0;
     }
     false
 }
@@ -135,11 +141,11 @@ pub fn sessions_fit(b: &[u8], t: &[u8]) -> bool
 {
     let mut i: usize = 0;
     let mut last: u64 = 0;
-    while i < 16 {
-        let at = i * 32;
+    while i < MOST_SESSIONS {
+        let at = i * SESSION_WIDTH;
         let key = low8(t, at);
         if key == 0 {
-            return rest_zero(t, at, 256);
+            return rest_zero(t, at, LONG_RUN);
         }
         if session_fits(b, t, at, last) {
             last = key;

@@ -11,10 +11,11 @@ use Rattle.plan.specs.declared.Port.{Port}
 use Rattle.plan.specs.Plan.{portNumbered, inPlan}
 use Rattle.state.specs.State.{State, noticeDue}
 use Rattle.state.specs.Image.{stateOf, okImage}
+use Rattle.state.proofs.ImageLaws.{ok-length}
 use Rattle.calls.specs.Calls.{frame, refusal, noSuchPlace, badLength, shortOutput}
 use Rattle.calls_serving.specs.Preconditions.{Fair}
 use Rattle.tmavolice.specs.Checks.{Checked}
-use Rattle.tmavolice.proofs.CheckLaws.{sized, refused, passed}
+use Rattle.tmavolice.proofs.CheckLaws.{refused, passed}
 
 abbrev There : State → ℕ → Type 0
 There s port = inPlan (portNumbered port (s .plan) .number) ≡ true
@@ -31,17 +32,17 @@ length-right : (octets : List ℕ) → 14 ≤ length octets → length octets �
 unfolding badLength within
 length-right octets low high = simp (le-leb 14 (length octets) low, le-leb (length octets) 2000 high)
 
-module _ {l : List ℕ} {t : Bool} {port side : ℕ} {octets out : List ℕ} {p : Port} (told : t ≡ okImage l) (good : t ≡ true)
+module _ {l : List ℕ} {port side : ℕ} {octets out : List ℕ} {p : Port} (ok : okImage l ≡ true)
     (found : p ≡ portNumbered port (stateOf l .plan)) where
   pub frame-portless : p .number ≡ 0 → Checked l (frame port side octets out) (Fair l side octets out) 1
   unfolding refusal noSuchPlace inPlan
-  frame-portless z = refused (sym told ∙ good) 1 (omega arith) (rw (← found, z))
+  frame-portless z = refused ok 1 (omega arith) (rw (← found, z))
 
   module _ (some : p .number ≡ 0 → ⊥) where
     pub frame-sideless : 1 < side → Checked l (frame port side octets out) (Fair l side octets out) 1
     unfolding refusal noSuchPlace within
     frame-sideless h =
-        refused (sym told ∙ good) 1 (omega arith)
+        refused ok 1 (omega arith)
         (simp (port-there (stateOf l) port found some, lt-leb side 1 h, le-leb 0 side (omega arith)))
 
     module _ (facing : side ≤ 1) where
@@ -49,7 +50,7 @@ module _ {l : List ℕ} {t : Bool} {port side : ℕ} {octets out : List ℕ} {p 
       unfolding refusal badLength within
       frame-short h =
           let there : There (stateOf l) port = port-there (stateOf l) port found some in
-          refused (sym told ∙ good) 2 (omega arith)
+          refused ok 2 (omega arith)
           (simp (place-there (stateOf l) port side there facing, lt-leb 14 (length octets) h))
 
       module _ (low : 14 ≤ length octets) where
@@ -57,7 +58,7 @@ module _ {l : List ℕ} {t : Bool} {port side : ℕ} {octets out : List ℕ} {p 
         unfolding refusal badLength within
         frame-long h =
             let there : There (stateOf l) port = port-there (stateOf l) port found some in
-            refused (sym told ∙ good) 2 (omega arith)
+            refused ok 2 (omega arith)
             (simp (place-there (stateOf l) port side there facing, le-leb 14 (length octets) low, lt-leb (length octets) 2000 h))
 
         module _ (high : length octets ≤ 2000) where
@@ -65,7 +66,7 @@ module _ {l : List ℕ} {t : Bool} {port side : ℕ} {octets out : List ℕ} {p 
           unfolding refusal shortOutput
           frame-roomless h =
               let there : There (stateOf l) port = port-there (stateOf l) port found some in
-              refused (sym told ∙ good) 3 (omega arith)
+              refused ok 3 (omega arith)
               (rw (place-there (stateOf l) port side there facing, length-right octets low high, lt-ltb (length out) 2008 h))
 
           module _ (room : 2008 ≤ length out) {due : Bool} (asked : due ≡ noticeDue (stateOf l)) where
@@ -73,7 +74,7 @@ module _ {l : List ℕ} {t : Bool} {port side : ℕ} {octets out : List ℕ} {p 
             unfolding refusal shortOutput
             frame-notice d =
                 let there : There (stateOf l) port = port-there (stateOf l) port found some in
-                refused (sym told ∙ good) 4 (omega arith)
+                refused ok 4 (omega arith)
                 (rw (
                   place-there (stateOf l) port side there facing,
                   length-right octets low high,
@@ -85,7 +86,7 @@ module _ {l : List ℕ} {t : Bool} {port side : ℕ} {octets out : List ℕ} {p 
             unfolding refusal shortOutput
             frame-passes d =
                 let there : There (stateOf l) port = port-there (stateOf l) port found some in
-                passed (sym told ∙ good)
+                passed ok
                 (rw (
                   place-there (stateOf l) port side there facing,
                   length-right octets low high,
@@ -93,8 +94,8 @@ module _ {l : List ℕ} {t : Bool} {port side : ℕ} {octets out : List ℕ} {p 
                   sym asked ∙ d,
                 ))
                 (record {
-                  ok = sym told ∙ good;
-                  long = sized l told good;
+                  ok = ok;
+                  long = ok-length l ok;
                   side-known = facing;
                   frame-some = low;
                   frame-fits = high;

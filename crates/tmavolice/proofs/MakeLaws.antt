@@ -1,9 +1,9 @@
 -- A unit made from a plan's text, as the host sees it.
 use mathlib.Core.Path.{_≡_, refl, sym, _∙_}
-use mathlib.Core.Bool.{true, false}
+use mathlib.Core.Bool.{true}
 use mathlib.Core.List.{List, []}
 use Prim.Native.Nat.{ℕ}
-use lib.ListN.{length, replicate}
+use lib.ListN.{length}
 use borrow.Author.Tests.{eq-eqb, ne-eqb}
 use Rattle.plan_reader.specs.declared.ReadPlan.{ReadPlan}
 use Rattle.plan.specs.Plan.{keepsRules}
@@ -14,7 +14,8 @@ use Rattle.plan.proofs.ReadKeeps.{read-keeps}
 use Rattle.state.specs.Image.{image}
 use Rattle.calls.specs.declared.Answer.the-variants.{Refused, Done, Faulty}
 use Rattle.calls.specs.Answer.{leaves, numberOf}
-use Rattle.calls.specs.Calls.{make, refusal, served, made, makeServed, lent, handed, call, makes, keepsImage, stored, enter}
+use Rattle.state.specs.State.{made}
+use Rattle.calls.specs.Calls.{make, refusal, served, makeServed, lent, handed, call, makes, keepsImage, stored, enter}
 use Rattle.tmavolice.specs.Outcome.{Outcome}
 
 module _ (text : List ℕ) (x : ReadPlan) (read : readingOf x ≡ planIn text) where
@@ -39,7 +40,7 @@ module _ (l text : List ℕ) (clock : ℕ) where
         rw (eq-eqb (length l) 4096 long, f) (record { answered = e; stored = refl; written = refl })
 
     pub make-done : {r : ℕ} {left : List ℕ} → x .reason ≡ 0
-        → left ≡ image (record { plan = planOf (x .records); clock = clock; allowed = replicate 32 false; sessions = [] })
+        → left ≡ image (made (planOf (x .records)) clock)
         → r ≡ numberOf Done → Outcome (enter l (make text clock)) r left []
-    unfolding enter lent makes call refusal served makeServed made leaves handed stored keepsImage
+    unfolding enter lent makes call refusal served makeServed leaves handed stored keepsImage
     make-done z s e = rw (eq-eqb (length l) 4096 long, plan-read text x read z) (record { answered = e; stored = s; written = refl })

@@ -1,18 +1,16 @@
 -- A call that is served, save one that makes a state, answers neither a refusal nor a fault: the image is rewritten.
 use mathlib.Core.Path.{_≡_, refl}
 use mathlib.Core.Bool.{Bool, true, false, cond}
-use mathlib.Core.List.{List}
+use mathlib.Core.List.{List, [], _∷_}
 use Prim.Native.Nat.{ℕ}
 use native.Mathlib.Omega.{arith}
 use lib.Dec.{ltb}
 use lib.ListN.{length}
 use Rattle.codec.specs.declared.Addressed.{Addressed}
 use Rattle.codec.specs.declared.Addressed.the-variants.{Elsewhere, Unicast, Multicast}
-use Rattle.codec.specs.declared.Place.{Place}
-use Rattle.codec.specs.declared.Place.the-variants.{NoSet, InSet}
 use Rattle.codec.specs.declared.Request.{Request}
 use Rattle.codec.specs.declared.Request.the-variants.{Malformed, Reserved, Activate, Deactivate, State as StateRequest}
-use Rattle.codec.specs.FrameSet.{placeOf, destination}
+use Rattle.codec.specs.FrameSet.{Member, member, setsOf, destination}
 use Rattle.codec.specs.Request.{requestOf}
 use Rattle.machine.specs.declared.Fate.{Fate}
 use Rattle.machine.specs.declared.Fate.the-variants.{Forward, Drop, Loop}
@@ -22,7 +20,7 @@ use Rattle.calls.specs.declared.Answer.the-variants.{Forwarded, Dropped, Replie
 use Rattle.calls.specs.Answer.{Sent, leaves, sends}
 use Rattle.calls.specs.Notice.{noticed, noticeServed}
 use Rattle.calls.specs.Frame.{Arrived, pdu, byFate, dataServed, goesOn, replied, machineServed, answers, requestServed, byWhom}
-use Rattle.calls.specs.Frame.{forMp, inFlow, inPlace, frameServed}
+use Rattle.calls.specs.Frame.{forMp, inFlow, inSets, frameServed}
 use Rattle.calls.specs.Calls.{Call, make, frame, tick, allow, prohibit, notice, restart, served, makes, keepsImage}
 
 abbrev Rewrites : Sent → Type 0
@@ -85,12 +83,12 @@ module _ (s : State) (a : Arrived) where
       go false = stays-rewrites true
 
 frame-rewrites : (s : State) (port side : ℕ) (octets : List ℕ) → Rewrites (frameServed s port side octets)
-unfolding frameServed inPlace leaves keepsImage
-frame-rewrites s port side octets = go (placeOf (portNumbered port (s .plan) .kind) octets)
+unfolding frameServed inSets leaves keepsImage
+frame-rewrites s port side octets = go (setsOf (portNumbered port (s .plan) .kind) octets)
   where
-    go : (p : Place) → Rewrites (inPlace s (portNumbered port (s .plan)) side octets p)
-    go NoSet = refl
-    go (InSet set tags) = flow-rewrites s _
+    go : (p : List Member) → Rewrites (inSets s (portNumbered port (s .plan)) side octets p)
+    go [] = refl
+    go (member set taglen ∷ more) = flow-rewrites s _
 
 pub served-rewrites : (s : State) (c : Call) → makes c ≡ false → Rewrites (served s c)
 unfolding served makes leaves sends noticeServed noticed keepsImage

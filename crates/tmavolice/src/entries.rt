@@ -12,6 +12,8 @@ use calls_serving::restart_at;
 use calls_serving::serve_frame;
 use calls_serving::take_notice;
 use calls_serving::tick_to;
+use state::port_numbered;
+use state_valid::is_image;
 ghost use mathlib.Core.List.{[]};
 ghost use Rattle.calls.specs.Calls.{frame as framed, tick, allow, prohibit, notice, restart, enter};
 ghost use Rattle.tmavolice.specs.Outcome.{Outcome};
@@ -27,11 +29,15 @@ pub extern "C" fn tmavolice_frame(
     ensures { λ r. ⌜ Outcome (enter (now (image .entry)) (framed port side (now (frame .entry)) (now (out .entry))))
         r (now (image .exit)) (now (out .exit)) ⌝ }
 {
-    let no = frame_refusal(image, port, side, frame, out);
-    if no != 0 {
-        return answer_number(Answer::Refused(no));
+    if is_image(&image[..]) {
+        let arrival = port_numbered(&image[..], port);
+        let no = frame_refusal(&image[..], arrival, side, frame, &out[..]);
+        if no != 0 {
+            return answer_number(Answer::Refused(no));
+        }
+        return answer_number(serve_frame(image, arrival, side as u8, frame, out));
     }
-    answer_number(serve_frame(image, port, side as u8, frame, out))
+    answer_number(Answer::Refused(8))
 }
 
 #[no_mangle]

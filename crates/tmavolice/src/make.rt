@@ -2,6 +2,7 @@
 use calls::Answer;
 use calls::answer_number;
 use plan_reader::read_plan;
+use state::IMAGE_LENGTH;
 use state_maker::make_image;
 ghost use mathlib.Core.List.{[]};
 ghost use Rattle.calls.specs.Calls.{make, enter};
@@ -11,7 +12,7 @@ ghost use Rattle.tmavolice.specs.Outcome.{Outcome};
 pub extern "C" fn tmavolice_make(image: &mut [u8], plan: &[u8], clock: u32) -> u64
     ensures { λ r. ⌜ Outcome (enter (now (image .entry)) (make (now (plan .entry)) clock)) r (now (image .exit)) [] ⌝ }
 {
-    if image.len() != 4096 {
+    if image.len() != IMAGE_LENGTH {
         return answer_number(Answer::Refused(8));
     }
     let x = read_plan(plan);

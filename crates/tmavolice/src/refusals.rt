@@ -1,42 +1,53 @@
 // The refusal that a call gets, or 0. The order of checks is the order of the numbers, save that 8 comes first.
+use codec::CEN;
 use machine::jumped;
+use plan::Port;
 use state::clock_of;
 use state::notice_due;
 use state::numbered_at;
-use state::port_numbered;
 use state_valid::is_image;
+ghost use mathlib.Core.Path.{_≡_};
+ghost use mathlib.Core.Bool.{true};
 ghost use Prim.Native.Nat.{ℕ};
+ghost use Rattle.plan.specs.Plan.{portNumbered};
+ghost use Rattle.state.specs.Image.{stateOf, okImage};
 ghost use Rattle.calls.specs.Calls.{frame as framed, tick, allow, notice, restart};
 ghost use Rattle.calls_serving.specs.Preconditions.{ImageKnown, FlowKnown, NoticeKnown, Fair};
 ghost use Rattle.tmavolice.specs.Checks.{Checked};
 
-pub fn frame_refusal(image: &[u8], port: u32, side: u32, frame: &[u8], out: &[u8]) -> u8
-    ensures { λ r. ⌜ Checked (now (image .entry)) (framed port side (now (frame .entry)) (now (out .entry)))
-        (Fair (now (image .entry)) side (now (frame .entry)) (now (out .entry))) r ⌝ }
+// The lengths that frames and outputs have.
+const SHORTEST_FRAME: usize = 14;
+
+const LONGEST_FRAME: usize = 2000;
+
+const LEAST_OUTPUT: usize = 2008;
+
+// Of a frame at this port, which has number 0 where there is none; the image is a valid state's.
+pub fn frame_refusal(image: &[u8], arrival: Port, side: u32, frame: &[u8], out: &[u8]) -> u8
+    requires { ⌜ okImage (now image) ≡ true ⌝ }
+    ensures { λ r. ⌜ ((port : ℕ) → arrival ≡ portNumbered port (stateOf (now (image .entry)) .plan)
+        → Checked (now (image .entry)) (framed port side (now (frame .entry)) (now (out .entry)))
+        (Fair (now (image .entry)) side (now (frame .entry)) (now (out .entry))) r) ⌝ }
 {
-    if is_image(image) {
-        let p = port_numbered(image, port);
-        if p.number == 0 {
-            return 1; // no such port
-        }
-        if 1 < side {
-            return 1; // no such side
-        }
-        if frame.len() < 14 {
-            return 2; // too short
-        }
-        if 2000 < frame.len() {
-            return 2; // too long
-        }
-        if out.len() < 2008 {
-            return 3; // no room
-        }
-        if notice_due(image) {
-            return 4;
-        }
-        return 0;
+    if arrival.number == 0 {
+        return 1; // no such port
     }
-    8
+    if (CEN as u32) < side {
+        return 1; // no such side
+    }
+    if frame.len() < SHORTEST_FRAME {
+        return 2; // too short
+    }
+    if LONGEST_FRAME < frame.len() {
+        return 2; // too long
+    }
+    if out.len() < LEAST_OUTPUT {
+        return 3; // no room
+    }
+    if notice_due(image) {
+        return 4;
+    }
+    0
 }
 
 pub fn tick_refusal(image: &[u8], clock: u32) -> u8
@@ -75,7 +86,7 @@ pub fn notice_refusal(image: &[u8], out: &[u8]) -> u8
         (NoticeKnown (now (image .entry)) (now (out .entry))) r ⌝ }
 {
     if is_image(image) {
-        if 2008 <= out.len() {
+        if LEAST_OUTPUT <= out.len() {
             if notice_due(image) {
                 return 0;
             }

@@ -114,28 +114,6 @@ returns-9 c = rw (c .before .before .a6 .given .1) (c .pack6 .ensures)
 pub answer-number-spec : {M : Type 1} → statement M
 answer-number-spec =
     tie.close
-    (tie.spec
-    enum-known-a
-    pack-requires
-    enum-told
-    enum-told-2
-    enum-known-a-2
-    pack-requires-2
-    enum-known-a-3
-    pack-requires-3
-    enum-known-a-4
-    pack-requires-4
-    enum-known-a-5
-    pack-requires-5
-    enum-told-3
-    enum-known-a-6
-    pack-requires-6
-    returns
-    returns-2
-    returns-3
-    returns-4
-    returns-5
-    returns-6
-    returns-7
-    returns-8
-    returns-9)
+    (tie.spec enum-known-a pack-requires enum-told enum-told-2 enum-known-a-2 pack-requires-2 enum-known-a-3 pack-requires-3
+    enum-known-a-4 pack-requires-4 enum-known-a-5 pack-requires-5 enum-told-3 enum-known-a-6 pack-requires-6 returns returns-2
+    returns-3 returns-4 returns-5 returns-6 returns-7 returns-8 returns-9)

@@ -46,13 +46,4 @@ returns c = refl
 pub pack-spec : {M : Type 1} → statement M
 pack-spec =
     tie.close
-    (tie.spec
-    mul-result
-    add-result
-    mul-result-2
-    add-result-2
-    mul-result-3
-    add-result-3
-    mul-result-4
-    add-result-4
-    returns)
+    (tie.spec mul-result add-result mul-result-2 add-result-2 mul-result-3 add-result-3 mul-result-4 add-result-4 returns)

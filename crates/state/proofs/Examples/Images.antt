@@ -13,6 +13,7 @@ use Rattle.codec.specs.FrameSet.{external, cen}
 use Rattle.state.specs.State.{State}
 use Rattle.state.specs.Image.{zeros, portRow, flowRow, sessionRow, rows, table, rowsIn, placeFrom, places, bit, head, image}
 use Rattle.state.specs.Image.{portIn, flowIn, sessionIn, stateOf, okImage}
+use Rattle.state.specs.Image.{unitFlag, sharedAddress, portsOpen, behindPlaces, portCounters, flowsOpen, behindSessions}
 use Rattle.state.proofs.Examples.{session, state, benchState, yard, judged}
 
 -- two sessions, one open and one owed a notice
@@ -25,7 +26,7 @@ yardState =
 -- To unfold it is to unfold all that writing and reading an image compute.
 yardImage : List ℕ
 unfolding image head bit places placeFrom table rows sessionRow flowRow portRow zeros lowOctets okImage stateOf sessionIn flowIn portIn
-    rowsIn lowNumber same judged yardState
+    rowsIn lowNumber same judged yardState unitFlag sharedAddress portsOpen behindPlaces portCounters flowsOpen behindSessions
 yardImage = image yardState
 
 an-image-has-4096-octets : length (image benchState) ≡ 4096

@@ -9,19 +9,9 @@ returns : tie.Need-returns
 unfolding machineAt
 returns c = rw (le-ltb _ _ (c .if1 .taken))
 
-mul-machine-of : tie.Need-mul-machine-of
-mul-machine-of c = search needs
-
-add-machine-of : tie.Need-add-machine-of
-add-machine-of c = search needs
-
-machine-of-requires : tie.Need-machine-of-requires
-machine-of-requires c κs = search needs
-
 returns-2 : tie.Need-returns-2
 unfolding machineAt key
 returns-2 c = rw (lt-ltb _ _ (c .before .if1 .left), c .machine-of .ensures)
 
 pub machine-at-spec : {M : Type 1} → statement M
-machine-at-spec =
-    tie.close (tie.spec returns mul-machine-of add-machine-of machine-of-requires returns-2)
+machine-at-spec = tie.close (tie.spec returns (search needs) (search needs) (search needs) returns-2)

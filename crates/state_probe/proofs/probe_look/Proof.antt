@@ -7,9 +7,6 @@ use borrow.Author.Needs.{needs}
 use Rattle.state_probe.proofs.probe_look.Statement.{statement}
 use Rattle.state_probe.proofs.probe_look.Tie as tie
 
-is-image-requires : tie.Need-is-image-requires
-is-image-requires c κs = search needs
-
 flow-at-requires : tie.Need-flow-at-requires
 flow-at-requires c κs = ok-length _ (sym (c .before .is-image .ensures) ∙ c .if1 .taken)
 
@@ -25,15 +22,6 @@ mp-of-requires : tie.Need-mp-of-requires
 mp-of-requires c κs =
     let n : _ = ok-length _ (sym (c .before .before .before .before .is-image .ensures) ∙ c .before .before .before .if1 .taken) in
     omega (arith, n, flow-fits _ _ _ (c .before .before .flow-at .ensures))
-
-low-part-requires : tie.Need-low-part-requires
-low-part-requires c κs = search needs
-
-session-part-requires : tie.Need-session-part-requires
-session-part-requires c κs = search needs
-
-add-result : tie.Need-add-result
-add-result c = search needs
 
 returns : tie.Need-returns
 returns c =
@@ -51,14 +39,5 @@ returns-2 c = look-nothing _ _ _ _ _ _ (sym (c .before .is-image .ensures) ∙ c
 pub probe-look-spec : {M : Type 1} → statement M
 probe-look-spec =
     tie.close
-    (tie.spec
-    is-image-requires
-    flow-at-requires
-    number-of-requires
-    machine-at-requires
-    mp-of-requires
-    low-part-requires
-    session-part-requires
-    add-result
-    returns
-    returns-2)
+    (tie.spec (search needs) flow-at-requires number-of-requires machine-at-requires mp-of-requires (search needs) (search needs)
+    (search needs) returns returns-2)

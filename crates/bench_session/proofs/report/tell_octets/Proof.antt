@@ -10,23 +10,11 @@ Inv-loop s from end i₀ t6 i = from ≤ i
 abbrev μ-loop : tie.MeasureT-loop
 μ-loop s from end i₀ t6 i = end - i
 
-slice-aggregate-tell : tie.Need-slice-aggregate-tell Inv-loop μ-loop
-slice-aggregate-tell c = search needs
-
-tell-requires : tie.Need-tell-requires Inv-loop μ-loop
-tell-requires c κs = search needs
-
 loop-holds : tie.Need-loop-holds Inv-loop μ-loop
 loop-holds c = omega arith
 
-slice-aggregate-tell-octet : tie.Need-slice-aggregate-tell-octet Inv-loop μ-loop
-slice-aggregate-tell-octet c = search needs
-
 shared-slice-read-tell-octet : tie.Need-shared-slice-read-tell-octet Inv-loop μ-loop
 shared-slice-read-tell-octet c = omega arith
-
-tell-octet-requires : tie.Need-tell-octet-requires Inv-loop μ-loop
-tell-octet-requires c κs = search needs
 
 add-i : tie.Need-add-i Inv-loop μ-loop
 add-i c = omega arith
@@ -37,22 +25,8 @@ loop-less c = omega arith
 loop-again : tie.Need-loop-again Inv-loop μ-loop
 loop-again c = omega arith
 
-returns : tie.Need-returns Inv-loop μ-loop
-returns c = search needs
-
 pub tell-octets-spec : {M : Type 1} → statement M
 tell-octets-spec =
     tie.close
-    (tie.spec
-    Inv-loop
-    μ-loop
-    slice-aggregate-tell
-    tell-requires
-    loop-holds
-    slice-aggregate-tell-octet
-    shared-slice-read-tell-octet
-    tell-octet-requires
-    add-i
-    loop-less
-    loop-again
-    returns)
+    (tie.spec Inv-loop μ-loop (search needs) (search needs) loop-holds (search needs) shared-slice-read-tell-octet (search needs)
+    add-i loop-less loop-again (search needs))

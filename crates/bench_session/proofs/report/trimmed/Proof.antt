@@ -37,14 +37,4 @@ returns-2 c = omega arith
 pub trimmed-spec : {M : Type 1} → statement M
 trimmed-spec =
     tie.close
-    (tie.spec
-    Inv-loop
-    μ-loop
-    loop-holds
-    sub-if1
-    shared-slice-read-if1
-    returns
-    sub-n
-    loop-less
-    loop-again
-    returns-2)
+    (tie.spec Inv-loop μ-loop loop-holds sub-if1 shared-slice-read-if1 returns sub-n loop-less loop-again returns-2)

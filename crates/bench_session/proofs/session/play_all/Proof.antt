@@ -15,12 +15,6 @@ abbrev μ-loop : tie.MeasureT-loop
 loop-holds : tie.Need-loop-holds Inv-loop μ-loop
 loop-holds c = (refl, refl)
 
-step-at-requires : tie.Need-step-at-requires Inv-loop μ-loop
-step-at-requires c κs = search needs
-
-play-requires : tie.Need-play-requires Inv-loop μ-loop
-play-requires c κs = search needs
-
 add-i : tie.Need-add-i Inv-loop μ-loop
 add-i c = omega arith
 
@@ -36,21 +30,8 @@ same-length c = omega arith
 same-length-2 : tie.Need-same-length-2 Inv-loop μ-loop
 same-length-2 c = omega arith
 
-returns : tie.Need-returns Inv-loop μ-loop
-returns c = search needs
-
 pub play-all-spec : {M : Type 1} → statement M
 play-all-spec =
     tie.close
-    (tie.spec
-    Inv-loop
-    μ-loop
-    loop-holds
-    step-at-requires
-    play-requires
-    add-i
-    loop-less
-    loop-again
-    same-length
-    same-length-2
-    returns)
+    (tie.spec Inv-loop μ-loop loop-holds (search needs) (search needs) add-i loop-less loop-again same-length same-length-2
+    (search needs))

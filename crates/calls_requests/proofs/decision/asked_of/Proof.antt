@@ -4,36 +4,6 @@ use borrow.Author.Needs.{needs}
 use Rattle.calls_requests.proofs.decision.asked_of.Statement.{statement}
 use Rattle.calls_requests.proofs.decision.asked_of.Tie as tie
 
-enum-told : tie.Need-enum-told
-enum-told c = search needs
-
-asked-requires : tie.Need-asked-requires
-asked-requires c κs = search needs
-
-enum-told-2 : tie.Need-enum-told-2
-enum-told-2 c = search needs
-
-asked-requires-2 : tie.Need-asked-requires-2
-asked-requires-2 c κs = search needs
-
-enum-known-request : tie.Need-enum-known-request
-enum-known-request c = search needs
-
-asked-requires-3 : tie.Need-asked-requires-3
-asked-requires-3 c κs = search needs
-
-enum-told-3 : tie.Need-enum-told-3
-enum-told-3 c = search needs
-
-asked-requires-4 : tie.Need-asked-requires-4
-asked-requires-4 c κs = search needs
-
-enum-told-4 : tie.Need-enum-told-4
-enum-told-4 c = search needs
-
-asked-requires-5 : tie.Need-asked-requires-5
-asked-requires-5 c κs = search needs
-
 returns : tie.Need-returns
 unfolding askedOf
 returns c = (rw (c .before .enum-told .given .1) (c .asked .ensures), rw (c .asked .ensures) (omega arith))
@@ -57,19 +27,5 @@ returns-5 c = (rw (c .before .enum-told4 .given .1) (c .asked5 .ensures), rw (c 
 pub asked-of-spec : {M : Type 1} → statement M
 asked-of-spec =
     tie.close
-    (tie.spec
-    enum-told
-    asked-requires
-    enum-told-2
-    asked-requires-2
-    enum-known-request
-    asked-requires-3
-    enum-told-3
-    asked-requires-4
-    enum-told-4
-    asked-requires-5
-    returns
-    returns-2
-    returns-3
-    returns-4
-    returns-5)
+    (tie.spec (search needs) (search needs) (search needs) (search needs) (search needs) (search needs) (search needs)
+    (search needs) (search needs) (search needs) returns returns-2 returns-3 returns-4 returns-5)

@@ -8,18 +8,6 @@ use Rattle.calls_requests.proofs.decision.change_session.Tie as tie
 keeps : (c : tie.At-match-came) → Keeps (c .before .before .args .change) (c .match .x)
 keeps c = ⊎-elim (λ w. inl (rw (w .3) (w .1 .given .1))) (λ w. inr (rw (w .3) (w .1 .given .1))) (c .match .came)
 
-enum-told : tie.Need-enum-told
-enum-told c = search needs
-
-enum-known-change : tie.Need-enum-known-change
-enum-known-change c = search needs
-
-enum-known-change-2 : tie.Need-enum-known-change-2
-enum-known-change-2 c = search needs
-
-enum-told-2 : tie.Need-enum-told-2
-enum-told-2 c = search needs
-
 remove-session-requires : tie.Need-remove-session-requires
 remove-session-requires c κs =
     let p : _ = c .before .before .before .before .pre .0 in
@@ -34,17 +22,11 @@ put-session-requires c κs =
 returns : tie.Need-returns
 returns c = λ key er. same-left _ (c .before .before .before .pre .0 .0) key (c .enum-told .given .1)
 
-same-length : tie.Need-same-length
-same-length c = search needs
-
 returns-2 : tie.Need-returns-2
 returns-2 c =
     let k : _ = c .before .before .before .before in
     λ key er.
     closed-left _ (k .before .before .before .pre .0 .0) key (k .enum-told2 .given .1) er (c .before .before .remove-session .ensures)
-
-same-length-2 : tie.Need-same-length-2
-same-length-2 c = search needs
 
 returns-3 : tie.Need-returns-3
 returns-3 c =
@@ -56,15 +38,5 @@ returns-3 c =
 pub change-session-spec : {M : Type 1} → statement M
 change-session-spec =
     tie.close
-    (tie.spec
-    enum-told
-    enum-known-change
-    enum-known-change-2
-    enum-told-2
-    remove-session-requires
-    put-session-requires
-    returns
-    same-length
-    returns-2
-    same-length-2
-    returns-3)
+    (tie.spec (search needs) (search needs) (search needs) (search needs) remove-session-requires put-session-requires returns
+    (search needs) returns-2 (search needs) returns-3)

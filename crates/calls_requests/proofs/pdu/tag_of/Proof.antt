@@ -7,10 +7,10 @@ use Rattle.calls_requests.proofs.pdu.tag_of.Statement.{statement}
 use Rattle.calls_requests.proofs.pdu.tag_of.Tie as tie
 
 abbrev Inv-loop : tie.InvT-loop
-Inv-loop tags frame n₀ i₀ n i = (i ≤ tags) × Gathering frame n i
+Inv-loop taglen frame n₀ i₀ n i = (i ≤ taglen) × Gathering frame n i
 
 abbrev μ-loop : tie.MeasureT-loop
-μ-loop tags frame n₀ i₀ n i = tags - i
+μ-loop taglen frame n₀ i₀ n i = taglen - i
 
 loop-holds : tie.Need-loop-holds Inv-loop μ-loop
 unfolding number
@@ -47,22 +47,10 @@ loop-again c =
 returns : tie.Need-returns Inv-loop μ-loop
 returns c =
     let l : _ = c .before .loop in
-    let e : l .i ≡ c .before .before .args .tags = omega arith in
+    let e : l .i ≡ c .before .before .args .taglen = omega arith in
     rw e at (l .inv .1 .met)
 
 pub tag-of-spec : {M : Type 1} → statement M
 tag-of-spec =
     tie.close
-    (tie.spec
-    Inv-loop
-    μ-loop
-    loop-holds
-    mul-n
-    add-n
-    shared-slice-read-n
-    cast-n
-    add-n-2
-    add-i
-    loop-less
-    loop-again
-    returns)
+    (tie.spec Inv-loop μ-loop loop-holds mul-n add-n shared-slice-read-n cast-n add-n-2 add-i loop-less loop-again returns)

@@ -1,88 +1,65 @@
+use mathlib.Core.Path.{sym, _∙_}
 use native.Mathlib.Omega.{arith}
+use denote.Ref.{now}
+use Rattle.codec.proofs.Places.{tag-whole}
 use Rattle.state.proofs.Inside.{flow-fits}
-use Rattle.calls_serving.proofs.FrameLaws.{no-set, no-flow, came, of-flow}
+use Rattle.calls_serving.proofs.FrameLaws.{no-set, there, no-flow, known, of-flow}
 use borrow.Author.Needs.{needs}
 use Rattle.calls_serving.proofs.frame.serve_frame.Statement.{statement}
 use Rattle.calls_serving.proofs.frame.serve_frame.Tie as tie
 
-port-numbered-requires : tie.Need-port-numbered-requires
-port-numbered-requires c κs = search needs
-
-place-of-requires : tie.Need-place-of-requires
-place-of-requires c κs = search needs
-
-enum-known-set : tie.Need-enum-known-set
-enum-known-set c = search needs
-
-enum-told : tie.Need-enum-told
-enum-told c = search needs
-
-same-length : tie.Need-same-length
-same-length c = search needs
+set-of-requires : tie.Need-set-of-requires
+set-of-requires c κs = (c .before .before .before .before .pre .frame-some, c .source-of .ensures .0)
 
 returns : tie.Need-returns
 returns c =
-    let p : _ = c .before .before .before in
-    no-set _ _ _ _ _ (p .before .before .before .before .before .pre)
-    (p .port-numbered .ensures) (c .before .before .place-of .ensures) (c .enum-told .given .1)
-
-flow-at-requires : tie.Need-flow-at-requires
-flow-at-requires c κs = search needs
+    let p : _ = c .before .before in
+    no-set _ _ _ _ _ (p .before .before .before .before .before .pre) (p .set-of .result) (p .set-of .ensures) (c .enum-told .given .1)
 
 number-of-requires : tie.Need-number-of-requires
 number-of-requires c κs = omega (arith, flow-fits _ _ _ (c .before .flow-at .ensures))
 
-same-length-2 : tie.Need-same-length-2
-same-length-2 c = search needs
-
 returns-2 : tie.Need-returns-2
 returns-2 c =
-    let f : _ = c .before .before .before in
-    let p : _ = f .before .before .before .before .before .before in
-    no-flow _ _ _ _ _ (p .before .before .before .before .before .pre)
-    (p .port-numbered .ensures) (f .before .before .before .before .before .place-of .ensures)
-    (f .before .before .before .set .given .1) (f .flow-at .ensures) (c .before .number-of .ensures) (c .if1 .taken)
+    let p : _ = c .before .before .before .before .before .before .before .before in
+    no-flow _ _ _ _ _ (p .before .before .before .before .before .pre) (p .set-of .result) (p .set-of .ensures) (c .before .before .before .before .before .before .set .given .1) (c .before .before .before .flow-at .ensures)
+    (c .before .number-of .ensures) (c .if1 .taken)
 
-serve-came-requires : tie.Need-serve-came-requires
-serve-came-requires c κs =
-    let f : _ = c .before .before .before .before .before in
-    let p : _ = f .before .before .before .before .before .before in
-    came _ _ _ _ _ (p .before .before .before .before .before .pre)
-    (p .port-numbered .ensures) (f .before .before .before .before .before .place-of .ensures)
-    (f .before .before .before .set .given .1) (f .flow-at .ensures)
-    (c .before .before .before .number-of .ensures) (c .before .before .if1 .left)
+heading-of-requires : tie.Need-heading-of-requires
+heading-of-requires c κs =
+    let p : _ = c .before .before .before .before .before .before .before .before in
+    let k : _ = p .before .before .before .before .before .pre in (
+      tag-whole _ (p .before .before .before .before .before .args .port .kind)
+          (there _ (p .before .before .before .before .before .args .port) _ _ _ k (p .set-of .result) (p .set-of .ensures) (c .before .before .before .before .before .before .set .given .1) (c .before .before .before .flow-at .ensures)
+          (c .before .number-of .ensures))
+          (k .frame-some),
+      p .before .source-of .ensures .0,
+    )
 
-same-length-3 : tie.Need-same-length-3
-same-length-3 c = search needs
+mp-of-requires : tie.Need-mp-of-requires
+mp-of-requires c κs = omega (arith, flow-fits _ _ _ (c .before .before .before .before .before .before .flow-at .ensures))
 
-same-length-4 : tie.Need-same-length-4
-same-length-4 c = search needs
+serve-arrival-requires : tie.Need-serve-arrival-requires
+serve-arrival-requires c κs =
+    let p : _ = c .before .before .before .before .before .before .before .before .before .before .before .before .before in
+    let s : _ = p .before .before .before .before .before in (
+      known _ _ _ _ _ (s .pre) (p .set-of .result) (p .set-of .ensures) (c .before .before .before .before .before .before .before .before .before .before .before .set .given .1) (c .before .before .before .before .before .before .before .before .flow-at .ensures)
+          (c .before .before .before .before .before .before .number-of .ensures) (c .before .before .before .before .before .if1 .left) (c .before .before .before .before .heading-of .ensures .0) (c .before .mp-of .ensures)
+          (rw (p .before .source-of .ensures .0) at (p .before .source-of .ensures .1)) (c .before .before .before .before .heading-of .ensures .1),
+      s .pre .room,
+    )
 
 returns-3 : tie.Need-returns-3
 returns-3 c =
-    let s : _ = c .before .before .before .before in
-    let f : _ = s .before .before .before .before .before .before in
-    let p : _ = f .before .before .before .before .before .before in
-    of-flow _ _ _ _ _ (p .before .before .before .before .before .pre)
-    (p .port-numbered .ensures) (f .before .before .before .before .before .place-of .ensures)
-    (f .before .before .before .set .given .1) (f .flow-at .ensures)
-    (s .before .before .before .before .number-of .ensures) (s .before .before .before .if1 .left) (s .serve-came .ensures)
+    let p : _ = c .before .before .before .before .before .before .before .before .before .before .before .before .before .before .before .before .before .before in
+    let s : _ = p .before .before .before .before .before in
+    of-flow _ _ _ _ _ (s .pre) (p .set-of .result) (p .set-of .ensures) (c .before .before .before .before .before .before .before .before .before .before .before .before .before .before .before .before .set .given .1) (c .before .before .before .before .before .before .before .before .before .before .before .before .before .flow-at .ensures)
+    (c .before .before .before .before .before .before .before .before .before .before .before .number-of .ensures) (c .before .before .before .before .before .before .before .before .before .before .if1 .left) (c .before .before .before .before .before .before .before .before .before .heading-of .ensures .0) (c .before .before .before .before .before .before .mp-of .ensures)
+    (c .before .before .before .before .serve-arrival .ensures)
 
 pub serve-frame-spec : {M : Type 1} → statement M
 serve-frame-spec =
     tie.close
-    (tie.spec
-    port-numbered-requires
-    place-of-requires
-    enum-known-set
-    enum-told
-    same-length
-    returns
-    flow-at-requires
-    number-of-requires
-    same-length-2
-    returns-2
-    serve-came-requires
-    same-length-3
-    same-length-4
-    returns-3)
+    (tie.spec (λ c κs. search needs) set-of-requires (λ c. search needs) (λ c. search needs) returns (λ c κs. search needs)
+    number-of-requires (λ c. search needs) returns-2 heading-of-requires mp-of-requires serve-arrival-requires
+    (λ c. search needs) (λ c. search needs) returns-3)

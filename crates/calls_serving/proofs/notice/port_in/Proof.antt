@@ -11,15 +11,9 @@ returns : tie.Need-returns
 unfolding flowOfRow noFlow
 returns c = simp (eq-eqb _ _ (c .if1 .taken))
 
-add-result : tie.Need-add-result
-add-result c = search needs
-
-shared-slice-read-result : tie.Need-shared-slice-read-result
-shared-slice-read-result c = search needs
-
 returns-2 : tie.Need-returns-2
 unfolding flowOfRow flowIn
 returns-2 c = simp (ne-eqb _ _ (c .before .if1 .left), getD-drop)
 
 pub port-in-spec : {M : Type 1} → statement M
-port-in-spec = tie.close (tie.spec returns add-result shared-slice-read-result returns-2)
+port-in-spec = tie.close (tie.spec returns (search needs) (search needs) returns-2)

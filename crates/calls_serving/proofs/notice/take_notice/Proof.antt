@@ -1,79 +1,41 @@
 use native.Mathlib.Omega.{arith}
-use Rattle.state.proofs.Inside.{session-fits}
+use Rattle.state.proofs.Inside.{owed-fits as row-fits}
 use Rattle.calls.proofs.Fits.{notice-length}
-use Rattle.calls_serving.proofs.OwedLaws.{owed-fits}
+use Rattle.calls_serving.proofs.OwedLaws.{owed-fits, owed-is, owed-at}
 use Rattle.calls_serving.proofs.NoticeLaws.{notice-taken}
 use borrow.Author.Needs.{needs}
 use Rattle.calls_serving.proofs.notice.take_notice.Statement.{statement}
 use Rattle.calls_serving.proofs.notice.take_notice.Tie as tie
 
-first-owed-requires : tie.Need-first-owed-requires
-first-owed-requires c κs = search needs
-
-port-of-requires : tie.Need-port-of-requires
-port-of-requires c κs = search needs
+read-session-requires : tie.Need-read-session-requires
+read-session-requires c κs = omega (arith, row-fits _ (c .before .owed-at .ensures), c .before .before .before .before .before .pre .long)
 
 put-notice-requires : tie.Need-put-notice-requires
 put-notice-requires c κs =
-    let o : _ = c .before .before .before in
-    let s : _ = o .before .before .before .before in
-    let f : _ = owed-fits (s .pre) (o .first-owed .ensures) in
-    (f .level-fits, (f .count-fits, (f .tag-fits, s .pre .room)))
-
-cast-session-at : tie.Need-cast-session-at
-cast-session-at c = search needs
-
-mul-session-at : tie.Need-mul-session-at
-mul-session-at c = search needs
-
-add-session-at : tie.Need-add-session-at
-add-session-at c =
-    let o : _ = c .before .before .before .before .before .before .before .before .before in
-    let s : _ = o .before .before .before .before in
-    omega (arith, owed-fits (s .pre) (o .first-owed .ensures) .source-fits)
-
-session-at-requires : tie.Need-session-at-requires
-session-at-requires c κs = search needs
+    let k : _ = c .before .before .before .before .before .before .before .before .before .pre in
+    let f : _ = owed-fits k (owed-is k (c .before .before .before .before .before .owed-at .ensures) (c .before .before .before .read-session .ensures .0)) in
+    (f .level-fits, (f .count-fits, (f .tag-fits, k .room)))
 
 remove-session-requires : tie.Need-remove-session-requires
-remove-session-requires c κs = (search needs, omega (arith, session-fits _ _ (c .before .session-at .ensures)))
+remove-session-requires c κs = (search needs, omega (arith, row-fits _ (c .before .before .before .before .before .before .before .before .before .owed-at .ensures)))
 
-cast-t21 : tie.Need-cast-t21
-cast-t21 c =
-    let n : _ = c .before .before .before .before .before .before .before .before .before .before in
-    let o : _ = n .before .before .before .before in
-    let s : _ = o .before .before .before .before in
-    let long : _ = notice-length (n .before .before .port-of .result) (o .first-owed .result) in
-    omega (arith, n .put-notice .ensures .0, long, owed-fits (s .pre) (o .first-owed .ensures) .count-fits)
-
-same-length : tie.Need-same-length
-same-length c = search needs
-
-same-length-2 : tie.Need-same-length-2
-same-length-2 c = search needs
+cast-t18 : tie.Need-cast-t18
+cast-t18 c =
+    let n : _ = c .before .before .before .before .before .before in
+    let k : _ = c .before .before .before .before .before .before .before .before .before .before .before .before .before .before .before .before .pre in
+    let f : _ = owed-fits k (owed-is k (c .before .before .before .before .before .before .before .before .before .before .before .before .owed-at .ensures) (c .before .before .before .before .before .before .before .before .before .before .read-session .ensures .0)) in
+    omega (arith, n .put-notice .ensures .0, notice-length (n .before .before .port-of .result) (c .before .before .before .before .before .before .before .before .before .before .read-session .result), f .count-fits)
 
 returns : tie.Need-returns
 returns c =
-    let r : _ = c .before .before .before .before in
-    let n : _ = r .before .before .before .before .before .before in
-    let o : _ = n .before .before .before .before in
-    let s : _ = o .before .before .before .before in
-    notice-taken _ (s .pre .ok) (o .first-owed .ensures) (n .before .before .port-of .ensures) (n .put-notice .ensures)
-    (r .session-at .ensures) (c .before .before .remove-session .ensures)
+    let k : _ = c .before .before .before .before .before .before .before .before .before .before .before .before .before .before .before .before .pre in
+    let e : _ = c .before .before .before .before .before .before .before .before .before .before .before .before .owed-at .ensures in
+    let x : _ = c .before .before .before .before .before .before .before .before .before .before .read-session .ensures .0 in
+    notice-taken _ (k .ok) (owed-is k e x) (c .before .before .before .before .before .before .before .before .port-of .ensures) (c .before .before .before .before .before .before .put-notice .ensures) (owed-at k e x)
+    (c .before .before .remove-session .ensures)
 
 pub take-notice-spec : {M : Type 1} → statement M
 take-notice-spec =
     tie.close
-    (tie.spec
-    first-owed-requires
-    port-of-requires
-    put-notice-requires
-    cast-session-at
-    mul-session-at
-    add-session-at
-    session-at-requires
-    remove-session-requires
-    cast-t21
-    same-length
-    same-length-2
-    returns)
+    (tie.spec (λ c κs. search needs) read-session-requires (λ c κs. search needs) put-notice-requires remove-session-requires cast-t18
+    (λ c. search needs) (λ c. search needs) returns)

@@ -3,12 +3,9 @@ use Rattle.codec.specs.FrameSet.{destination}
 use Rattle.codec.proofs.frame.destination_of.Statement.{statement}
 use Rattle.codec.proofs.frame.destination_of.Tie as tie
 
-number6-requires : tie.Need-number6-requires
-number6-requires c κs = search needs
-
 returns : tie.Need-returns
 unfolding destination
 returns c = c .number6 .ensures
 
 pub destination-of-spec : {M : Type 1} → statement M
-destination-of-spec = tie.close (tie.spec number6-requires returns)
+destination-of-spec = tie.close (tie.spec (search needs) returns)

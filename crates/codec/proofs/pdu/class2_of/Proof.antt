@@ -4,12 +4,9 @@ use Rattle.codec.specs.Request.{class2}
 use Rattle.codec.proofs.pdu.class2_of.Statement.{statement}
 use Rattle.codec.proofs.pdu.class2_of.Tie as tie
 
-add-result : tie.Need-add-result
-add-result c = search needs
-
 returns : tie.Need-returns
 unfolding class2
 returns c = refl
 
 pub class2-of-spec : {M : Type 1} → statement M
-class2-of-spec = tie.close (tie.spec add-result returns)
+class2-of-spec = tie.close (tie.spec (search needs) returns)

@@ -4,12 +4,6 @@ use Rattle.codec.specs.Request.{wrongOffset, versionOf, offsetOf, octet}
 use Rattle.codec.proofs.pdu.wrong_offset.Statement.{statement}
 use Rattle.codec.proofs.pdu.wrong_offset.Tie as tie
 
-octet-at-requires : tie.Need-octet-at-requires
-octet-at-requires c κs = search needs
-
-octet-at-requires-2 : tie.Need-octet-at-requires-2
-octet-at-requires-2 c κs = search needs
-
 returns : tie.Need-returns
 unfolding wrongOffset versionOf offsetOf octet
 returns c = rw (← c .before .before .octet-at .ensures, ← c .before .octet-at2 .ensures) (simp (eq-eqb _ _ (c .if1 .taken)))
@@ -19,4 +13,4 @@ unfolding wrongOffset versionOf offsetOf octet
 returns-2 c = rw (← c .before .before .octet-at .ensures, ← c .before .octet-at2 .ensures) (simp (ne-eqb _ _ (c .if1 .left)))
 
 pub wrong-offset-spec : {M : Type 1} → statement M
-wrong-offset-spec = tie.close (tie.spec octet-at-requires octet-at-requires-2 returns returns-2)
+wrong-offset-spec = tie.close (tie.spec (search needs) (search needs) returns returns-2)

@@ -9,16 +9,10 @@ returns c =
     let a : _ = c .before .before .before .args in
     none-copied (a .count) (now (a .request)) (now (a .out)) (c .if1 .taken)
 
-first-tlv-requires : tie.Need-first-tlv-requires
-first-tlv-requires c κs = search needs
-
 copy-unknown-requires : tie.Need-copy-unknown-requires
 copy-unknown-requires c κs =
     let a : _ = c .before .before .before .before .before .args in
     rw (← some-copied (a .count) (now (a .request)) (c .before .before .if1 .left) (c .first-tlv .ensures .0)) (c .before .before .before .before .before .pre)
-
-same-length : tie.Need-same-length
-same-length c = search needs
 
 returns-2 : tie.Need-returns-2
 returns-2 c =
@@ -26,5 +20,4 @@ returns-2 c =
     rw (some-copied (a .count) (now (a .request)) (c .before .before .before .before .before .if1 .left) (c .before .before .before .first-tlv .ensures .0)) (c .before .before .copy-unknown .ensures)
 
 pub put-copies-spec : {M : Type 1} → statement M
-put-copies-spec =
-    tie.close (tie.spec returns first-tlv-requires copy-unknown-requires same-length returns-2)
+put-copies-spec = tie.close (tie.spec returns (search needs) copy-unknown-requires (search needs) returns-2)

@@ -9,24 +9,6 @@ use borrow.Author.Needs.{needs}
 use Rattle.codec_replies.proofs.answer.put_reply.Statement.{statement}
 use Rattle.codec_replies.proofs.answer.put_reply.Tie as tie
 
-flags-of-requires : tie.Need-flags-of-requires
-flags-of-requires c κs = search needs
-
-put-header-requires : tie.Need-put-header-requires
-put-header-requires c κs = search needs
-
-sub-put-timer-part : tie.Need-sub-put-timer-part
-sub-put-timer-part c = search needs
-
-part-put-timer-part-start : tie.Need-part-put-timer-part-start
-part-put-timer-part-start c = search needs
-
-part-put-timer-part-end : tie.Need-part-put-timer-part-end
-part-put-timer-part-end c = search needs
-
-put-timer-part-requires : tie.Need-put-timer-part-requires
-put-timer-part-requires c κs = search needs
-
 add-n : tie.Need-add-n
 add-n c =
     let s : _ = c .before .before .before .before .before .before .before .before .before .before .before .before in
@@ -41,9 +23,6 @@ part-put-copies-start : tie.Need-part-put-copies-start
 part-put-copies-start c =
     let s : _ = c .before .before .before .before .before .before .before .before .before .before .before .before in
     omega (arith, c .before .before .put-timer-part .ensures .1 .0, s .pre .1 .0, s .pre .1 .1)
-
-part-put-copies-end : tie.Need-part-put-copies-end
-part-put-copies-end c = search needs
 
 put-copies-requires : tie.Need-put-copies-requires
 put-copies-requires c κs =
@@ -68,12 +47,6 @@ part-copy-into-start c =
     let s : _ = t .before .before .before .before .before .before .before .before .before .before in
     omega (arith, t .put-timer-part .ensures .1 .0, c .before .before .put-copies .ensures .0, s .pre .1 .0, s .pre .1 .1)
 
-part-copy-into-end : tie.Need-part-copy-into-end
-part-copy-into-end c = search needs
-
-slice-aggregate-copy-into : tie.Need-slice-aggregate-copy-into
-slice-aggregate-copy-into c = search needs
-
 copy-into-requires : tie.Need-copy-into-requires
 copy-into-requires c κs =
     let u : _ = c .before .before .before .before in
@@ -87,9 +60,6 @@ add-result c =
     let t : _ = u .before .before .before .before in
     let s : _ = t .before .before .before .before .before .before .before .before .before .before in
     omega (arith, t .put-timer-part .ensures .1 .0, u .put-copies .ensures .0, s .pre .1 .0, s .pre .1 .1)
-
-same-length : tie.Need-same-length
-same-length c = search needs
 
 returns : tie.Need-returns
 unfolding replyOf replyPdu
@@ -117,24 +87,6 @@ returns c =
 pub put-reply-spec : {M : Type 1} → statement M
 put-reply-spec =
     tie.close
-    (tie.spec
-    flags-of-requires
-    put-header-requires
-    sub-put-timer-part
-    part-put-timer-part-start
-    part-put-timer-part-end
-    put-timer-part-requires
-    add-n
-    sub-put-copies
-    part-put-copies-start
-    part-put-copies-end
-    put-copies-requires
-    add-m
-    sub-copy-into
-    part-copy-into-start
-    part-copy-into-end
-    slice-aggregate-copy-into
-    copy-into-requires
-    add-result
-    same-length
-    returns)
+    (tie.spec (search needs) (search needs) (search needs) (search needs) (search needs) (search needs) add-n sub-put-copies
+    part-put-copies-start (search needs) put-copies-requires add-m sub-copy-into part-copy-into-start (search needs)
+    (search needs) copy-into-requires add-result (search needs) returns)

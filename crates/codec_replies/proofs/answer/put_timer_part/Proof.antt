@@ -9,12 +9,6 @@ returns c =
     let a : _ = c .before .before .args in
     under-code-1 (a .kind) (a .code) (a .seconds) (now (a .out)) (c .if1 .taken)
 
-put-timer-requires : tie.Need-put-timer-requires
-put-timer-requires c κs = search needs
-
-same-length : tie.Need-same-length
-same-length c = search needs
-
 returns-2 : tie.Need-returns-2
 returns-2 c =
     let u : _ = c .before .before .before .before in
@@ -22,12 +16,6 @@ returns-2 c =
     let s : _ = t .before .before in
     let a : _ = s .args in
     in-activate (a .kind) (a .code) (a .seconds) (now (a .out)) (t .if1 .left) (u .if2 .taken) (c .before .before .put-timer .ensures)
-
-put-timer-requires-2 : tie.Need-put-timer-requires-2
-put-timer-requires-2 c κs = search needs
-
-same-length-2 : tie.Need-same-length-2
-same-length-2 c = search needs
 
 returns-3 : tie.Need-returns-3
 returns-3 c =
@@ -46,12 +34,4 @@ returns-4 c =
 pub put-timer-part-spec : {M : Type 1} → statement M
 put-timer-part-spec =
     tie.close
-    (tie.spec
-    returns
-    put-timer-requires
-    same-length
-    returns-2
-    put-timer-requires-2
-    same-length-2
-    returns-3
-    returns-4)
+    (tie.spec returns (search needs) (search needs) returns-2 (search needs) (search needs) returns-3 returns-4)

@@ -11,9 +11,6 @@ use borrow.Author.Needs.{needs}
 use Rattle.codec_tlvs.proofs.copies.copy_one.Statement.{statement}
 use Rattle.codec_tlvs.proofs.copies.copy_one.Tie as tie
 
-is-timer-requires : tie.Need-is-timer-requires
-is-timer-requires c κs = search needs
-
 returns : tie.Need-returns
 returns c =
     let a : _ = c .before .before .before .before .args in
@@ -34,35 +31,14 @@ whole : (c : tie.After-octets2)
     ≡ head c ++ now (c .before .before .before .before .before .args .value)
 whole c = kept-all _ _ (sym (c .before .before .is-timer .ensures) ∙ c .before .if1 .left) (c .octets2 .ensures)
 
-octets2-requires : tie.Need-octets2-requires
-octets2-requires c κs = search needs
-
-array-read-t12 : tie.Need-array-read-t12
-array-read-t12 c = search needs
-
-array-read-t15 : tie.Need-array-read-t15
-array-read-t15 c = search needs
-
-slice-aggregate-put-at : tie.Need-slice-aggregate-put-at
-slice-aggregate-put-at c = search needs
-
 put-at-requires : tie.Need-put-at-requires
 put-at-requires c κs = omega (arith, ap length (whole (c .before .before)))
-
-add-put-at : tie.Need-add-put-at
-add-put-at c = search needs
 
 put-at-requires-2 : tie.Need-put-at-requires-2
 put-at-requires-2 c κs = omega (arith, ap length (whole (c .before .before .before .before .before .before)))
 
-add-result : tie.Need-add-result
-add-result c = search needs
-
 add-result-2 : tie.Need-add-result-2
 add-result-2 c = omega (arith, ap length (whole (c .before .before .before .before .before .before .before .before .before)))
-
-same-length : tie.Need-same-length
-same-length c = search needs
 
 returns-2 : tie.Need-returns-2
 returns-2 c =
@@ -76,17 +52,5 @@ returns-2 c =
 pub copy-one-spec : {M : Type 1} → statement M
 copy-one-spec =
     tie.close
-    (tie.spec
-    is-timer-requires
-    returns
-    octets2-requires
-    array-read-t12
-    array-read-t15
-    slice-aggregate-put-at
-    put-at-requires
-    add-put-at
-    put-at-requires-2
-    add-result
-    add-result-2
-    same-length
-    returns-2)
+    (tie.spec (search needs) returns (search needs) (search needs) (search needs) (search needs) put-at-requires (search needs)
+    put-at-requires-2 (search needs) add-result-2 (search needs) returns-2)

@@ -36,9 +36,9 @@ use denote.Exit.{yes}
 use Rattle.codec_tlvs.proofs.Copy.{begun, rest}
 use Rattle.codec_tlvs.proofs.Locals.{allocated, its}
 use Rattle.codec_tlvs.proofs.Held.{sliced, typed}
-use Rattle.codec_tlvs.proofs.Asking.{Token}
+use Rattle.codec_tlvs.proofs.Questions.{Token}
 use Rattle.codec_tlvs.proofs.Promised.{Readers, readers-of}
-use Rattle.codec_tlvs.proofs.Reading.{calls-new}
+use Rattle.codec_tlvs.proofs.ReaderRules.{calls-new}
 use Rattle.codec_tlvs.proofs.copies.copy_one.Symbol as copy-one-def
 use Rattle.codec_tlvs.proofs.copies.copy_one.Met as copy-one-thm
 use Rattle.codec_tlvs.proofs.copies.copy_unknown as copy-unknown

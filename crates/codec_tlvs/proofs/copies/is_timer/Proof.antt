@@ -17,9 +17,6 @@ returns-2 c =
     let v : _ = now (c .before .before .args .value) in
     simp (eq-eqb _ _ (c .before .if1 .left), List·getD-eq-default v 0 {n = 0} (omega arith))
 
-shared-slice-read-if3 : tie.Need-shared-slice-read-if3
-shared-slice-read-if3 c = search needs
-
 returns-3 : tie.Need-returns-3
 unfolding isTimer subtype
 returns-3 c = simp (eq-eqb _ _ (c .before .before .before .if1 .left), ne-eqb _ _ (c .if3 .taken))
@@ -29,4 +26,4 @@ unfolding isTimer subtype
 returns-4 c = simp (eq-eqb _ _ (c .before .before .before .if1 .left), eq-eqb _ _ (c .if3 .left))
 
 pub is-timer-spec : {M : Type 1} → statement M
-is-timer-spec = tie.close (tie.spec returns returns-2 shared-slice-read-if3 returns-3 returns-4)
+is-timer-spec = tie.close (tie.spec returns returns-2 (search needs) returns-3 returns-4)

@@ -14,15 +14,9 @@ returns : tie.Need-returns
 unfolding stepAt
 returns c = simp (le-ltb _ _ (c .if1 .taken))
 
-shared-slice-read-kind : tie.Need-shared-slice-read-kind
-shared-slice-read-kind c = search needs
-
 returns-2 : tie.Need-returns-2
 unfolding stepAt
 returns-2 c = simp (lt-ltb _ _ (c .before .before .if1 .left), eq-eqb _ _ (c .if2 .taken))
-
-sub-left : tie.Need-sub-left
-sub-left c = search needs
 
 returns-3 : tie.Need-returns-3
 unfolding stepAt
@@ -30,12 +24,6 @@ returns-3 c =
     let a : _ = c .before .before .before .before .before .args in
     let h : length (now (a .pdu)) < a .at + 3 + number 2 (drop (a .at + 1) (now (a .pdu))) = omega arith in
     simp (lt-ltb _ _ (c .before .before .before .if1 .left), ne-eqb _ _ (c .before .if2 .left), lt-leb _ _ h)
-
-add-number2 : tie.Need-add-number2
-add-number2 c = search needs
-
-number2-requires : tie.Need-number2-requires
-number2-requires c κs = search needs
 
 returns-4 : tie.Need-returns-4
 unfolding stepAt
@@ -47,12 +35,6 @@ returns-4 c =
       ne-eqb _ _ (c .before .before .before .if2 .left),
       lt-leb _ _ h,
     )
-
-add-start : tie.Need-add-start
-add-start c = search needs
-
-add-t7 : tie.Need-add-t7
-add-t7 c = search needs
 
 returns-5 : tie.Need-returns-5
 unfolding stepAt
@@ -67,15 +49,5 @@ returns-5 c =
 pub tlv-at-spec : {M : Type 1} → statement M
 tlv-at-spec =
     tie.close
-    (tie.spec
-    returns
-    shared-slice-read-kind
-    returns-2
-    sub-left
-    returns-3
-    add-number2
-    number2-requires
-    returns-4
-    add-start
-    add-t7
-    returns-5)
+    (tie.spec returns (search needs) returns-2 (search needs) returns-3 (search needs) (search needs) returns-4 (search needs)
+    (search needs) returns-5)

@@ -36,9 +36,9 @@ use denote.Exit.{yes}
 use Rattle.codec_tlvs.proofs.Turn.{begun}
 use Rattle.codec_tlvs.proofs.Locals.{allocated, its}
 use Rattle.codec_tlvs.proofs.Held.{sliced, typed}
-use Rattle.codec_tlvs.proofs.Asking.{Token}
+use Rattle.codec_tlvs.proofs.Questions.{Token}
 use Rattle.codec_tlvs.proofs.Promised.{Readers, readers-of}
-use Rattle.codec_tlvs.proofs.Reading.{calls-new}
+use Rattle.codec_tlvs.proofs.ReaderRules.{calls-new}
 use Rattle.codec_tlvs.proofs.summaries.counted.Symbol as counted-def
 use Rattle.codec_tlvs.proofs.summaries.counted.Met as counted-thm
 use Rattle.codec_tlvs.proofs.summaries.bad_summary.Symbol as bad-def

@@ -8,9 +8,6 @@ returns : tie.Need-returns
 unfolding timerOf
 returns c = simp (eq-eqb _ _ (c .if1 .taken))
 
-shared-slice-read-if2 : tie.Need-shared-slice-read-if2
-shared-slice-read-if2 c = search needs
-
 returns-2 : tie.Need-returns-2
 unfolding timerOf
 returns-2 c = simp (ne-eqb _ _ (c .before .before .if1 .left), ne-eqb _ _ (c .if2 .taken))
@@ -19,9 +16,6 @@ returns-3 : tie.Need-returns-3
 unfolding timerOf
 returns-3 c =
     simp (ne-eqb _ _ (c .before .before .before .if1 .left), eq-eqb _ _ (c .before .if2 .left), ne-eqb _ _ (c .if3 .taken))
-
-number4-requires : tie.Need-number4-requires
-number4-requires c κs = search needs
 
 returns-4 : tie.Need-returns-4
 unfolding timerOf
@@ -34,6 +28,4 @@ returns-4 c =
     )
 
 pub timer-of-spec : {M : Type 1} → statement M
-timer-of-spec =
-    tie.close
-    (tie.spec returns shared-slice-read-if2 returns-2 returns-3 number4-requires returns-4)
+timer-of-spec = tie.close (tie.spec returns (search needs) returns-2 returns-3 (search needs) returns-4)

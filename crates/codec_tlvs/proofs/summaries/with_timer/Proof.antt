@@ -2,14 +2,8 @@ use borrow.Author.Needs.{needs}
 use Rattle.codec_tlvs.proofs.summaries.with_timer.Statement.{statement}
 use Rattle.codec_tlvs.proofs.summaries.with_timer.Tie as tie
 
-bad-summary-requires : tie.Need-bad-summary-requires
-bad-summary-requires c κs = search needs
-
-returns : tie.Need-returns
-returns c = search needs
-
 returns-2 : tie.Need-returns-2
 returns-2 c = simp (c .if1 .left)
 
 pub with-timer-spec : {M : Type 1} → statement M
-with-timer-spec = tie.close (tie.spec bad-summary-requires returns returns-2)
+with-timer-spec = tie.close (tie.spec (search needs) (λ c. search needs) returns-2)

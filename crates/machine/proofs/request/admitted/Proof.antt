@@ -5,32 +5,17 @@ use borrow.Author.Needs.{needs}
 use Rattle.machine.proofs.request.admitted.Statement.{statement}
 use Rattle.machine.proofs.request.admitted.Tie as tie
 
-answered-requires : tie.Need-answered-requires
-answered-requires c κs = search needs
-
 returns : tie.Need-returns
 unfolding admitted
 returns c = rw (seconds-none _ (c .before .if1 .taken)) (c .answered .ensures)
-
-answered-requires-2 : tie.Need-answered-requires-2
-answered-requires-2 c κs = search needs
 
 returns-2 : tie.Need-returns-2
 unfolding admitted
 returns-2 c = rw (seconds-many _ (c .before .if2 .taken)) (c .answered2 .ensures)
 
-answered-requires-3 : tie.Need-answered-requires-3
-answered-requires-3 c κs = search needs
-
 returns-3 : tie.Need-returns-3
 unfolding admitted
 returns-3 c = rw (seconds-good _ (c .before .before .before .if1 .left) (c .before .before .if2 .left), ne-eqb _ _ (c .before .if3 .taken)) (c .answered3 .ensures)
-
-mul-lasting : tie.Need-mul-lasting
-mul-lasting c = search needs
-
-lasting-requires : tie.Need-lasting-requires
-lasting-requires c κs = search needs
 
 returns-4 : tie.Need-returns-4
 unfolding admitted
@@ -39,13 +24,4 @@ returns-4 c = rw (seconds-good _ (c .before .before .before .if1 .left) (c .befo
 pub admitted-spec : {M : Type 1} → statement M
 admitted-spec =
     tie.close
-    (tie.spec
-    answered-requires
-    returns
-    answered-requires-2
-    returns-2
-    answered-requires-3
-    returns-3
-    mul-lasting
-    lasting-requires
-    returns-4)
+    (tie.spec (search needs) returns (search needs) returns-2 (search needs) returns-3 (search needs) (search needs) returns-4)

@@ -4,28 +4,13 @@ use borrow.Author.Needs.{needs}
 use Rattle.machine.proofs.request.closed.Statement.{statement}
 use Rattle.machine.proofs.request.closed.Tie as tie
 
-enum-known-m : tie.Need-enum-known-m
-enum-known-m c = search needs
-
-enum-told : tie.Need-enum-told
-enum-told c = search needs
-
-answered-requires : tie.Need-answered-requires
-answered-requires c κs = search needs
-
 returns : tie.Need-returns
 unfolding closed
 returns c = rw (c .before .enum-told .given .1) (c .answered .ensures)
 
-same-mp-requires : tie.Need-same-mp-requires
-same-mp-requires c κs = search needs
-
 returns-2 : tie.Need-returns-2
 unfolding closed
 returns-2 c = rw (c .before .before .before .m .given .1, sym (c .before .same-mp .ensures) ∙ c .if1 .taken)
-
-answered-requires-2 : tie.Need-answered-requires-2
-answered-requires-2 c κs = search needs
 
 returns-3 : tie.Need-returns-3
 unfolding closed
@@ -34,12 +19,4 @@ returns-3 c = rw (c .before .before .before .before .m .given .1, sym (c .before
 pub closed-spec : {M : Type 1} → statement M
 closed-spec =
     tie.close
-    (tie.spec
-    enum-known-m
-    enum-told
-    answered-requires
-    returns
-    same-mp-requires
-    returns-2
-    answered-requires-2
-    returns-3)
+    (tie.spec (search needs) (search needs) (search needs) returns (search needs) returns-2 (search needs) returns-3)

@@ -5,35 +5,17 @@ use borrow.Author.Needs.{needs}
 use Rattle.machine.proofs.request.refreshed.Statement.{statement}
 use Rattle.machine.proofs.request.refreshed.Tie as tie
 
-same-mp-requires : tie.Need-same-mp-requires
-same-mp-requires c κs = search needs
-
-answered-requires : tie.Need-answered-requires
-answered-requires c κs = search needs
-
 returns : tie.Need-returns
 unfolding refreshed
 returns c = rw (sym (c .before .before .before .same-mp .ensures) ∙ c .before .before .if1 .taken, seconds-none _ (c .before .if2 .taken)) (c .answered .ensures)
-
-answered-requires-2 : tie.Need-answered-requires-2
-answered-requires-2 c κs = search needs
 
 returns-2 : tie.Need-returns-2
 unfolding refreshed
 returns-2 c = rw (sym (c .before .before .before .before .same-mp .ensures) ∙ c .before .before .before .if1 .taken, seconds-many _ (c .before .if3 .taken)) (c .answered2 .ensures)
 
-mul-lasting : tie.Need-mul-lasting
-mul-lasting c = search needs
-
-lasting-requires : tie.Need-lasting-requires
-lasting-requires c κs = search needs
-
 returns-3 : tie.Need-returns-3
 unfolding refreshed
 returns-3 c = rw (sym (c .before .before .before .before .same-mp .ensures) ∙ c .before .before .before .if1 .taken, seconds-good _ (c .before .before .if2 .left) (c .before .if3 .left), c .lasting .ensures)
-
-answered-requires-3 : tie.Need-answered-requires-3
-answered-requires-3 c κs = search needs
 
 returns-4 : tie.Need-returns-4
 unfolding refreshed
@@ -42,14 +24,5 @@ returns-4 c = rw (sym (c .before .before .same-mp .ensures) ∙ c .before .if1 .
 pub refreshed-spec : {M : Type 1} → statement M
 refreshed-spec =
     tie.close
-    (tie.spec
-    same-mp-requires
-    answered-requires
-    returns
-    answered-requires-2
-    returns-2
-    mul-lasting
-    lasting-requires
-    returns-3
-    answered-requires-3
-    returns-4)
+    (tie.spec (search needs) (search needs) returns (search needs) returns-2 (search needs) (search needs) returns-3
+    (search needs) returns-4)

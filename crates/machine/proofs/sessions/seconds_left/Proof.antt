@@ -8,12 +8,9 @@ returns : tie.Need-returns
 unfolding secondsLeft
 returns c = omega arith
 
-add-result : tie.Need-add-result
-add-result c = search needs
-
 returns-2 : tie.Need-returns-2
 unfolding secondsLeft
 returns-2 c = omega arith
 
 pub seconds-left-spec : {M : Type 1} → statement M
-seconds-left-spec = tie.close (tie.spec returns add-result returns-2)
+seconds-left-spec = tie.close (tie.spec returns (search needs) returns-2)

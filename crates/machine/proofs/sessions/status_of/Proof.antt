@@ -3,15 +3,6 @@ use borrow.Author.Needs.{needs}
 use Rattle.machine.proofs.sessions.status_of.Statement.{statement}
 use Rattle.machine.proofs.sessions.status_of.Tie as tie
 
-enum-told : tie.Need-enum-told
-enum-told c = search needs
-
-enum-known-m : tie.Need-enum-known-m
-enum-known-m c = search needs
-
-seconds-left-requires : tie.Need-seconds-left-requires
-seconds-left-requires c κs = search needs
-
 returns : tie.Need-returns
 unfolding statusOf
 returns c = rw (c .enum-told .given .1)
@@ -21,5 +12,4 @@ unfolding statusOf
 returns-2 c = rw (c .before .before .m .given .1, c .seconds-left .ensures)
 
 pub status-of-spec : {M : Type 1} → statement M
-status-of-spec =
-    tie.close (tie.spec enum-told enum-known-m seconds-left-requires returns returns-2)
+status-of-spec = tie.close (tie.spec (search needs) (search needs) (search needs) returns returns-2)

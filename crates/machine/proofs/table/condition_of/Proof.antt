@@ -5,9 +5,6 @@ use borrow.Author.Needs.{needs}
 use Rattle.machine.proofs.table.condition_of.Statement.{statement}
 use Rattle.machine.proofs.table.condition_of.Tie as tie
 
-row-of-requires : tie.Need-row-of-requires
-row-of-requires c κs = search needs
-
 returns : tie.Need-returns
 unfolding conditionOf conditionNumber
 returns c = rw (c .before .if1 .taken) (c .row-of .ensures)
@@ -17,4 +14,4 @@ unfolding conditionOf conditionNumber
 returns-2 c = (rw (c .if1 .left), omega arith)
 
 pub condition-of-spec : {M : Type 1} → statement M
-condition-of-spec = tie.close (tie.spec row-of-requires returns returns-2)
+condition-of-spec = tie.close (tie.spec (search needs) returns returns-2)

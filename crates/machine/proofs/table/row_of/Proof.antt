@@ -5,12 +5,6 @@ use borrow.Author.Needs.{needs}
 use Rattle.machine.proofs.table.row_of.Statement.{statement}
 use Rattle.machine.proofs.table.row_of.Tie as tie
 
-enum-told : tie.Need-enum-told
-enum-told c = search needs
-
-enum-told-2 : tie.Need-enum-told-2
-enum-told-2 c = search needs
-
 returns : tie.Need-returns
 unfolding activity conditionNumber
 returns c = (rw (c .enum-told .given .1), omega arith)
@@ -20,4 +14,4 @@ unfolding activity conditionNumber
 returns-2 c = (rw (c .enum-told2 .given .1), omega arith)
 
 pub row-of-spec : {M : Type 1} → statement M
-row-of-spec = tie.close (tie.spec enum-told enum-told-2 returns returns-2)
+row-of-spec = tie.close (tie.spec (search needs) (search needs) returns returns-2)

@@ -4,9 +4,6 @@ use borrow.Author.Needs.{needs}
 use Rattle.machine.proofs.time.jumped.Statement.{statement}
 use Rattle.machine.proofs.time.jumped.Tie as tie
 
-elapsed-requires : tie.Need-elapsed-requires
-elapsed-requires c κs = search needs
-
 returns : tie.Need-returns
 unfolding jumped
 returns c = rw (← c .before .elapsed .ensures, le-leb _ _ (c .if1 .taken))
@@ -16,4 +13,4 @@ unfolding jumped
 returns-2 c = rw (← c .before .elapsed .ensures, lt-leb _ _ (c .if1 .left))
 
 pub jumped-spec : {M : Type 1} → statement M
-jumped-spec = tie.close (tie.spec elapsed-requires returns returns-2)
+jumped-spec = tie.close (tie.spec (search needs) returns returns-2)

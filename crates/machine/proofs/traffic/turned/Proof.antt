@@ -5,18 +5,9 @@ use borrow.Author.Needs.{needs}
 use Rattle.machine.proofs.traffic.turned.Statement.{statement}
 use Rattle.machine.proofs.traffic.turned.Tie as tie
 
-enum-known-m : tie.Need-enum-known-m
-enum-known-m c = search needs
-
-enum-told : tie.Need-enum-told
-enum-told c = search needs
-
 returns : tie.Need-returns
 unfolding turned
 returns c = rw (c .enum-told .given .1)
-
-passes-requires : tie.Need-passes-requires
-passes-requires c κs = search needs
 
 returns-2 : tie.Need-returns-2
 unfolding turned
@@ -31,6 +22,4 @@ unfolding turned
 returns-4 c = rw (c .before .before .before .before .m .given .1, sym (c .before .before .passes .ensures) ∙ c .before .if1 .left, ne-eqb _ _ (c .if2 .left))
 
 pub turned-spec : {M : Type 1} → statement M
-turned-spec =
-    tie.close
-    (tie.spec enum-known-m enum-told returns passes-requires returns-2 returns-3 returns-4)
+turned-spec = tie.close (tie.spec (search needs) (search needs) returns (search needs) returns-2 returns-3 returns-4)

@@ -6,27 +6,6 @@ use borrow.Author.Needs.{needs}
 use Rattle.octets.proofs.low.low6.Statement.{statement}
 use Rattle.octets.proofs.low.low6.Tie as tie
 
-low4-requires : tie.Need-low4-requires
-low4-requires c κs = search needs
-
-wider-requires : tie.Need-wider-requires
-wider-requires c κs = search needs
-
-add-low-pair : tie.Need-add-low-pair
-add-low-pair c = search needs
-
-low-pair-requires : tie.Need-low-pair-requires
-low-pair-requires c κs = search needs
-
-wider-requires-2 : tie.Need-wider-requires-2
-wider-requires-2 c κs = search needs
-
-mul-result : tie.Need-mul-result
-mul-result c = search needs
-
-add-result : tie.Need-add-result
-add-result c = search needs
-
 returns : tie.Need-returns
 returns c =
     let a : _ = c .before .before .before .before .before .args in
@@ -37,12 +16,4 @@ returns c =
 pub low6-spec : {M : Type 1} → statement M
 low6-spec =
     tie.close
-    (tie.spec
-    low4-requires
-    wider-requires
-    add-low-pair
-    low-pair-requires
-    wider-requires-2
-    mul-result
-    add-result
-    returns)
+    (tie.spec (search needs) (search needs) (search needs) (search needs) (search needs) (search needs) (search needs) returns)

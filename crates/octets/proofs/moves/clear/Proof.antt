@@ -4,7 +4,7 @@ use native.Mathlib.Omega.{arith}
 use lib.ListN.{length, length-set, replicate}
 use Rattle.octets.specs.Octets.{splice}
 use Rattle.octets.proofs.Over.{splice-none}
-use Rattle.octets.proofs.Moving.{clear-turn}
+use Rattle.octets.proofs.MoveLaws.{clear-turn}
 use Rattle.octets.proofs.moves.clear.Statement.{statement}
 use Rattle.octets.proofs.moves.clear.Tie as tie
 
@@ -19,23 +19,11 @@ abbrev μ-loop : tie.MeasureT-loop
 loop-holds : tie.Need-loop-holds Inv-loop μ-loop
 loop-holds c = (omega arith, omega arith, refl, refl)
 
-slice-write-b : tie.Need-slice-write-b Inv-loop μ-loop
-slice-write-b c = omega arith
-
-add-i : tie.Need-add-i Inv-loop μ-loop
-add-i c = omega arith
-
-loop-less : tie.Need-loop-less Inv-loop μ-loop
-loop-less c = omega arith
-
 loop-again : tie.Need-loop-again Inv-loop μ-loop
 loop-again c =
     let l : _ = c .before .loop in
     let turn : _ = clear-turn (l .b) (l .i) (c .before .before .args .high) (omega arith) (omega arith) in
     (omega arith, omega arith, simp length-set (omega arith), turn ∙ l .inv .3)
-
-same-length : tie.Need-same-length Inv-loop μ-loop
-same-length c = omega arith
 
 returns : tie.Need-returns Inv-loop μ-loop
 returns c =
@@ -46,13 +34,5 @@ returns c =
 pub clear-spec : {M : Type 1} → statement M
 clear-spec =
     tie.close
-    (tie.spec
-    Inv-loop
-    μ-loop
-    loop-holds
-    slice-write-b
-    add-i
-    loop-less
-    loop-again
-    same-length
+    (tie.spec Inv-loop μ-loop loop-holds (λ c. omega arith) (λ c. omega arith) (λ c. omega arith) loop-again (λ c. omega arith)
     returns)

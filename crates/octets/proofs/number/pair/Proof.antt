@@ -1,50 +1,19 @@
-use mathlib.Core.Path.{_∙_}
-use Prim.Native.Nat.{_+_}
 use native.Mathlib.Omega.{arith}
 use denote.Ref.{now}
-use Rattle.octets.proofs.Laws.{number-parts, number-1}
+use Rattle.octets.specs.Octets.{number, lowOctets}
+use Rattle.octets.proofs.Laws.{Octets}
+use Rattle.octets.proofs.Round.{number-turned}
 use borrow.Author.Needs.{needs}
 use Rattle.octets.proofs.number.pair.Statement.{statement}
 use Rattle.octets.proofs.number.pair.Tie as tie
 
-shared-slice-read-wide : tie.Need-shared-slice-read-wide
-shared-slice-read-wide c = search needs
-
-wide-requires : tie.Need-wide-requires
-wide-requires c κs = search needs
-
-mul-result : tie.Need-mul-result
-mul-result c = search needs
-
-add-wide : tie.Need-add-wide
-add-wide c = search needs
-
-shared-slice-read-wide-2 : tie.Need-shared-slice-read-wide-2
-shared-slice-read-wide-2 c = search needs
-
-wide-requires-2 : tie.Need-wide-requires-2
-wide-requires-2 c κs = search needs
-
-add-result : tie.Need-add-result
-add-result c = search needs
-
 returns : tie.Need-returns
+unfolding number lowOctets
 returns c =
-    let a : _ = c .before .before .before .before .before .args in
-    let s : _ = now (a .s) in
-    let one : _ = c .before .before .wide .ensures .0 ∙ number-1 (a .at) s in
-    let two : _ = c .wide2 .ensures .0 ∙ number-1 (a .at + 1) s in
-    (number-parts 1 1 (a .at) s one two, omega arith)
+    let a : _ = c .before .before .before .args in
+    let o : Octets (now (a .s)) = λ i. c .before .before .shared-slice-known .given i .fits in
+    let e : _ = number-turned 2 (a .at) (now (a .s)) o (omega arith) (c .before .low-pair .ensures .0) (c .swapped2 .ensures .0) in
+    (e, omega (arith, c .swapped2 .ensures .0))
 
 pub pair-spec : {M : Type 1} → statement M
-pair-spec =
-    tie.close
-    (tie.spec
-    shared-slice-read-wide
-    wide-requires
-    mul-result
-    add-wide
-    shared-slice-read-wide-2
-    wide-requires-2
-    add-result
-    returns)
+pair-spec = tie.close (tie.spec (search needs) (search needs) returns)

@@ -5,15 +5,9 @@ use borrow.Author.Needs.{needs}
 use Rattle.octets.proofs.number.swapped2.Statement.{statement}
 use Rattle.octets.proofs.number.swapped2.Tie as tie
 
-mul-result : tie.Need-mul-result
-mul-result c = search needs
-
-add-result : tie.Need-add-result
-add-result c = search needs
-
 returns : tie.Need-returns
 unfolding number octets lowNumber lowOctets
 returns c = (omega arith, rw div-one (omega arith))
 
 pub swapped2-spec : {M : Type 1} → statement M
-swapped2-spec = tie.close (tie.spec mul-result add-result returns)
+swapped2-spec = tie.close (tie.spec (search needs) (search needs) returns)

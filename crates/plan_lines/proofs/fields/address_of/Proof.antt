@@ -9,12 +9,9 @@ returns : tie.Need-returns
 unfolding isAddress
 returns c = simp (ne-eqb _ _ (c .if1 .taken))
 
-hex-of-requires : tie.Need-hex-of-requires
-hex-of-requires c κs = search needs
-
 returns-2 : tie.Need-returns-2
 unfolding isAddress addressIn hexOn isHex
 returns-2 c = simp (eq-eqb _ _ (c .before .if1 .left)) (c .hex-of .ensures)
 
 pub address-of-spec : {M : Type 1} → statement M
-address-of-spec = tie.close (tie.spec returns hex-of-requires returns-2)
+address-of-spec = tie.close (tie.spec returns (search needs) returns-2)

@@ -6,7 +6,7 @@ use borrow.Author.Needs.{needs}
 use denote.Ref.{now}
 use Rattle.plan_lines.specs.CappedLine.{capped}
 use Rattle.plan_lines.specs.Fields.{digitsOn}
-use Rattle.plan_lines.proofs.Spelling.{digits-turn, digits-other, digits-end}
+use Rattle.plan_lines.proofs.Digits.{digits-turn, digits-other, digits-end}
 use Rattle.plan_lines.proofs.fields.digits_of.Statement.{statement}
 use Rattle.plan_lines.proofs.fields.digits_of.Tie as tie
 
@@ -19,32 +19,11 @@ abbrev μ-loop : tie.MeasureT-loop
 loop-holds : tie.Need-loop-holds Inv-loop μ-loop
 loop-holds c = (omega arith, refl)
 
-shared-slice-read-value-of : tie.Need-shared-slice-read-value-of Inv-loop μ-loop
-shared-slice-read-value-of c = omega arith
-
-value-of-requires : tie.Need-value-of-requires Inv-loop μ-loop
-value-of-requires c κs = search needs
-
 returns : tie.Need-returns Inv-loop μ-loop
 returns c =
     let a : _ = c .before .before .before .before .before .before .args in
     let l : _ = c .before .before .before .before .loop in
     digits-other (now (a .f)) (l .i) (l .so) _ (omega arith) (c .before .value-of .ensures) (c .if1 .taken) ∙ l .inv .1
-
-mul-cap : tie.Need-mul-cap Inv-loop μ-loop
-mul-cap c = omega arith
-
-add-cap : tie.Need-add-cap Inv-loop μ-loop
-add-cap c = omega arith
-
-cap-requires : tie.Need-cap-requires Inv-loop μ-loop
-cap-requires c κs = search needs
-
-add-i : tie.Need-add-i Inv-loop μ-loop
-add-i c = omega arith
-
-loop-less : tie.Need-loop-less Inv-loop μ-loop
-loop-less c = omega arith
 
 loop-again : tie.Need-loop-again Inv-loop μ-loop
 unfolding capped
@@ -64,17 +43,5 @@ returns-2 c =
 pub digits-of-spec : {M : Type 1} → statement M
 digits-of-spec =
     tie.close
-    (tie.spec
-    Inv-loop
-    μ-loop
-    loop-holds
-    shared-slice-read-value-of
-    value-of-requires
-    returns
-    mul-cap
-    add-cap
-    cap-requires
-    add-i
-    loop-less
-    loop-again
-    returns-2)
+    (tie.spec Inv-loop μ-loop loop-holds (λ c. omega arith) (search needs) returns (λ c. omega arith) (λ c. omega arith)
+    (search needs) (λ c. omega arith) (λ c. omega arith) loop-again returns-2)

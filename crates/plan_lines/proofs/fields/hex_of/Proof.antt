@@ -5,7 +5,7 @@ use lib.ListN.{length, drop}
 use borrow.Author.Needs.{needs}
 use denote.Ref.{now}
 use Rattle.plan_lines.specs.Fields.{hexOn}
-use Rattle.plan_lines.proofs.Spelling.{hex-turn, hex-other, hex-end, hex-fits}
+use Rattle.plan_lines.proofs.Digits.{hex-turn, hex-other, hex-end, hex-fits}
 use Rattle.plan_lines.proofs.fields.hex_of.Statement.{statement}
 use Rattle.plan_lines.proofs.fields.hex_of.Tie as tie
 
@@ -27,12 +27,6 @@ fits c =
 loop-holds : tie.Need-loop-holds Inv-loop μ-loop
 loop-holds c = (omega arith, refl)
 
-shared-slice-read-value-of : tie.Need-shared-slice-read-value-of Inv-loop μ-loop
-shared-slice-read-value-of c = omega arith
-
-value-of-requires : tie.Need-value-of-requires Inv-loop μ-loop
-value-of-requires c κs = search needs
-
 returns : tie.Need-returns Inv-loop μ-loop
 returns c =
     let a : _ = c .before .before .before .before .before .before .args in
@@ -42,17 +36,8 @@ returns c =
 mul-so : tie.Need-mul-so Inv-loop μ-loop
 mul-so c = omega (arith, fits c .1)
 
-cast-so : tie.Need-cast-so Inv-loop μ-loop
-cast-so c = search needs
-
 add-so : tie.Need-add-so Inv-loop μ-loop
 add-so c = omega (arith, fits c .1)
-
-add-i : tie.Need-add-i Inv-loop μ-loop
-add-i c = omega arith
-
-loop-less : tie.Need-loop-less Inv-loop μ-loop
-loop-less c = omega arith
 
 loop-again : tie.Need-loop-again Inv-loop μ-loop
 loop-again c =
@@ -71,17 +56,5 @@ returns-2 c =
 pub hex-of-spec : {M : Type 1} → statement M
 hex-of-spec =
     tie.close
-    (tie.spec
-    Inv-loop
-    μ-loop
-    loop-holds
-    shared-slice-read-value-of
-    value-of-requires
-    returns
-    mul-so
-    cast-so
-    add-so
-    add-i
-    loop-less
-    loop-again
-    returns-2)
+    (tie.spec Inv-loop μ-loop loop-holds (λ c. omega arith) (search needs) returns mul-so (search needs) add-so
+    (λ c. omega arith) (λ c. omega arith) loop-again returns-2)

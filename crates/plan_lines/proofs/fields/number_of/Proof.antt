@@ -8,17 +8,11 @@ use Rattle.plan_lines.proofs.fields.number_of.Tie as tie
 returns : tie.Need-returns
 returns c = empty (now (c .before .before .args .f)) (c .if1 .taken)
 
-shared-slice-read-if2 : tie.Need-shared-slice-read-if2
-shared-slice-read-if2 c = search needs
-
 returns-2 : tie.Need-returns-2
 returns-2 c = zero-alone (now (c .before .before .before .before .before .args .f)) (c .before .if2 .taken) (c .if3 .taken)
 
 returns-3 : tie.Need-returns-3
 returns-3 c = zero-leads (now (c .before .before .before .before .before .args .f)) (c .before .if2 .taken) (c .if3 .left)
-
-digits-of-requires : tie.Need-digits-of-requires
-digits-of-requires c κs = search needs
 
 returns-4 : tie.Need-returns-4
 returns-4 c =
@@ -26,6 +20,4 @@ returns-4 c =
     c .digits-of .ensures ∙ other-leads f (c .before .before .before .if1 .left) (c .before .if2 .left)
 
 pub number-of-spec : {M : Type 1} → statement M
-number-of-spec =
-    tie.close
-    (tie.spec returns shared-slice-read-if2 returns-2 returns-3 digits-of-requires returns-4)
+number-of-spec = tie.close (tie.spec returns (search needs) returns-2 returns-3 (search needs) returns-4)

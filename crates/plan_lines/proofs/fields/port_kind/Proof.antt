@@ -5,21 +5,9 @@ use Rattle.plan.specs.Line.{listed, portKinds}
 use Rattle.plan_lines.proofs.fields.port_kind.Statement.{statement}
 use Rattle.plan_lines.proofs.fields.port_kind.Tie as tie
 
-slice-aggregate-same-octets : tie.Need-slice-aggregate-same-octets
-slice-aggregate-same-octets c = search needs
-
-same-octets-requires : tie.Need-same-octets-requires
-same-octets-requires c κs = search needs
-
 returns : tie.Need-returns
 unfolding listed portKinds text
 returns c = rw (sym (c .before .same-octets .ensures) ∙ c .if1 .taken)
-
-slice-aggregate-same-octets-2 : tie.Need-slice-aggregate-same-octets-2
-slice-aggregate-same-octets-2 c = search needs
-
-same-octets-requires-2 : tie.Need-same-octets-requires-2
-same-octets-requires-2 c κs = search needs
 
 returns-2 : tie.Need-returns-2
 unfolding listed portKinds text
@@ -34,13 +22,4 @@ returns-3 c =
     rw (sym (first .before .same-octets .ensures) ∙ first .if1 .left, sym (c .before .same-octets2 .ensures) ∙ c .if2 .left)
 
 pub port-kind-spec : {M : Type 1} → statement M
-port-kind-spec =
-    tie.close
-    (tie.spec
-    slice-aggregate-same-octets
-    same-octets-requires
-    returns
-    slice-aggregate-same-octets-2
-    same-octets-requires-2
-    returns-2
-    returns-3)
+port-kind-spec = tie.close (tie.spec (search needs) (search needs) returns (search needs) (search needs) returns-2 returns-3)

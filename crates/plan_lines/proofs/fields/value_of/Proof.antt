@@ -15,9 +15,6 @@ returns c =
     let x : ℕ = c .before .args .x in
     simp (lt-leb 48 x (omega arith), lt-leb 97 x (omega arith))
 
-cast-result : tie.Need-cast-result
-cast-result c = search needs
-
 returns-2 : tie.Need-returns-2
 unfolding valueOf isHex isDigit within digit
 returns-2 c =
@@ -29,12 +26,6 @@ unfolding valueOf isHex isDigit within digit
 returns-3 c =
     let x : ℕ = c .before .before .before .args .x in
     simp (le-leb 48 x (omega arith), lt-leb x 57 (omega arith), lt-leb 97 x (omega arith))
-
-sub-result : tie.Need-sub-result
-sub-result c = search needs
-
-cast-result-2 : tie.Need-cast-result-2
-cast-result-2 c = search needs
 
 returns-4 : tie.Need-returns-4
 unfolding valueOf isHex isDigit within digit
@@ -61,6 +52,4 @@ returns-5 c =
     )
 
 pub value-of-spec : {M : Type 1} → statement M
-value-of-spec =
-    tie.close
-    (tie.spec returns cast-result returns-2 returns-3 sub-result cast-result-2 returns-4 returns-5)
+value-of-spec = tie.close (tie.spec returns (search needs) returns-2 returns-3 (search needs) (search needs) returns-4 returns-5)

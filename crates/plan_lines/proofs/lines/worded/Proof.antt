@@ -5,30 +5,12 @@ use Rattle.plan_lines.proofs.Words.{word-port, word-flow, word-mp, word
 use Rattle.plan_lines.proofs.lines.worded.Statement.{statement}
 use Rattle.plan_lines.proofs.lines.worded.Tie as tie
 
-slice-aggregate-same-octets : tie.Need-slice-aggregate-same-octets
-slice-aggregate-same-octets c = search needs
-
-same-octets-requires : tie.Need-same-octets-requires
-same-octets-requires c κs = search needs
-
-port-of-requires : tie.Need-port-of-requires
-port-of-requires c κs = search needs
-
 returns : tie.Need-returns
 unfolding text
 returns c =
     let first : _ = c .before in
-    c .port-of .ensures
+    c .behind .ensures
     ∙ word-port _ _ (sym (first .before .same-octets .ensures) ∙ first .if1 .taken)
-
-slice-aggregate-same-octets-2 : tie.Need-slice-aggregate-same-octets-2
-slice-aggregate-same-octets-2 c = search needs
-
-same-octets-requires-2 : tie.Need-same-octets-requires-2
-same-octets-requires-2 c κs = search needs
-
-flow-of-requires : tie.Need-flow-of-requires
-flow-of-requires c κs = search needs
 
 returns-2 : tie.Need-returns-2
 unfolding text
@@ -39,22 +21,13 @@ returns-2 c =
     ∙ word-flow _ _ (sym (first .before .same-octets .ensures) ∙ first .if1 .left)
     (sym (second .before .same-octets2 .ensures) ∙ second .if2 .taken)
 
-slice-aggregate-same-octets-3 : tie.Need-slice-aggregate-same-octets-3
-slice-aggregate-same-octets-3 c = search needs
-
-same-octets-requires-3 : tie.Need-same-octets-requires-3
-same-octets-requires-3 c κs = search needs
-
-mp-of-requires : tie.Need-mp-of-requires
-mp-of-requires c κs = search needs
-
 returns-3 : tie.Need-returns-3
 unfolding text
 returns-3 c =
     let first : _ = c .before .before .before .before .before .before .before in
     let second : _ = c .before .before .before .before in
     let third : _ = c .before in
-    c .mp-of .ensures
+    c .behind2 .ensures
     ∙ word-mp _ _ (sym (first .before .same-octets .ensures) ∙ first .if1 .left)
     (sym (second .before .same-octets2 .ensures) ∙ second .if2 .left)
     (sym (third .before .same-octets3 .ensures) ∙ third .if3 .taken)
@@ -71,17 +44,5 @@ returns-4 c =
 pub worded-spec : {M : Type 1} → statement M
 worded-spec =
     tie.close
-    (tie.spec
-    slice-aggregate-same-octets
-    same-octets-requires
-    port-of-requires
-    returns
-    slice-aggregate-same-octets-2
-    same-octets-requires-2
-    flow-of-requires
-    returns-2
-    slice-aggregate-same-octets-3
-    same-octets-requires-3
-    mp-of-requires
-    returns-3
-    returns-4)
+    (tie.spec (search needs) (search needs) (search needs) returns (search needs) (search needs) (search needs) returns-2
+    (search needs) (search needs) (search needs) returns-3 returns-4)

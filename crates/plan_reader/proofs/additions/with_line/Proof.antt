@@ -3,27 +3,15 @@ use Rattle.plan_reader.specs.ReadPlan.{saidReason, saidAdded}
 use Rattle.plan_reader.proofs.additions.with_line.Statement.{statement}
 use Rattle.plan_reader.proofs.additions.with_line.Tie as tie
 
-enum-told : tie.Need-enum-told
-enum-told c = search needs
-
-enum-known-line : tie.Need-enum-known-line
-enum-known-line c = search needs
-
 with-port-requires : tie.Need-with-port-requires
 unfolding saidReason
 with-port-requires c κs =
     (c .before .before .before .pre .0, rw (c .before .line .given .1) at (c .before .before .before .pre .1))
 
-enum-known-line-2 : tie.Need-enum-known-line-2
-enum-known-line-2 c = search needs
-
 with-flow-requires : tie.Need-with-flow-requires
 unfolding saidReason
 with-flow-requires c κs =
     (c .before .before .before .pre .0, rw (c .before .line2 .given .1) at (c .before .before .before .pre .1))
-
-enum-known-line-3 : tie.Need-enum-known-line-3
-enum-known-line-3 c = search needs
 
 with-mp-requires : tie.Need-with-mp-requires
 unfolding saidReason
@@ -48,15 +36,5 @@ returns-4 c = rw (c .before .before .line3 .given .1) (c .with-mp .ensures)
 pub with-line-spec : {M : Type 1} → statement M
 with-line-spec =
     tie.close
-    (tie.spec
-    enum-told
-    enum-known-line
-    with-port-requires
-    enum-known-line-2
-    with-flow-requires
-    enum-known-line-3
-    with-mp-requires
-    returns
-    returns-2
-    returns-3
-    returns-4)
+    (tie.spec (search needs) (search needs) with-port-requires (search needs) with-flow-requires (search needs) with-mp-requires
+    returns returns-2 returns-3 returns-4)

@@ -4,22 +4,13 @@ use borrow.Author.Needs.{needs}
 use Rattle.plan_reader.proofs.ranges.flow_out.Statement.{statement}
 use Rattle.plan_reader.proofs.ranges.flow_out.Tie as tie
 
-in-range-requires : tie.Need-in-range-requires
-in-range-requires c κs = search needs
-
 returns : tie.Need-returns
 returns c = rw (sym (c .before .in-range .ensures) ∙ not-true _ (c .if1 .taken))
-
-in-range-requires-2 : tie.Need-in-range-requires-2
-in-range-requires-2 c κs = search needs
 
 returns-2 : tie.Need-returns-2
 returns-2 c =
     let e : _ = sym (c .before .before .before .in-range .ensures) ∙ not-false _ (c .before .before .if1 .left) in
     rw (e, sym (c .before .in-range2 .ensures) ∙ not-true _ (c .if2 .taken))
-
-good-vid-requires : tie.Need-good-vid-requires
-good-vid-requires c κs = search needs
 
 returns-3 : tie.Need-returns-3
 returns-3 c =
@@ -28,6 +19,4 @@ returns-3 c =
     rw (e, f, c .good-vid .ensures)
 
 pub flow-out-spec : {M : Type 1} → statement M
-flow-out-spec =
-    tie.close
-    (tie.spec in-range-requires returns in-range-requires-2 returns-2 good-vid-requires returns-3)
+flow-out-spec = tie.close (tie.spec (search needs) returns (search needs) returns-2 (search needs) returns-3)

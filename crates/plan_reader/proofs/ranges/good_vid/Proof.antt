@@ -8,12 +8,9 @@ returns : tie.Need-returns
 unfolding goodVid
 returns c = rw (c .if1 .taken)
 
-in-range-requires : tie.Need-in-range-requires
-in-range-requires c κs = search needs
-
 returns-2 : tie.Need-returns-2
 unfolding goodVid
 returns-2 c = rw (ne-eqb _ _ (c .before .if1 .left)) (c .in-range .ensures)
 
 pub good-vid-spec : {M : Type 1} → statement M
-good-vid-spec = tie.close (tie.spec returns in-range-requires returns-2)
+good-vid-spec = tie.close (tie.spec returns (search needs) returns-2)

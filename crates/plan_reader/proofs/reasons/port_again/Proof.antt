@@ -3,14 +3,8 @@ use Rattle.plan_reader.proofs.ReasonLaws.{there, gone}
 use Rattle.plan_reader.proofs.reasons.port_again.Statement.{statement}
 use Rattle.plan_reader.proofs.reasons.port_again.Tie as tie
 
-port-numbered-requires : tie.Need-port-numbered-requires
-port-numbered-requires c κs = search needs
-
 returns : tie.Need-returns
 returns c = rw (there (λ x. x .number) (c .before .before .port-numbered .ensures) (c .if1 .taken))
-
-address-held-requires : tie.Need-address-held-requires
-address-held-requires c κs = search needs
 
 returns-2 : tie.Need-returns-2
 returns-2 c =
@@ -18,5 +12,4 @@ returns-2 c =
     (c .address-held .ensures)
 
 pub port-again-spec : {M : Type 1} → statement M
-port-again-spec =
-    tie.close (tie.spec port-numbered-requires returns address-held-requires returns-2)
+port-again-spec = tie.close (tie.spec (search needs) returns (search needs) returns-2)

@@ -6,15 +6,9 @@ use Rattle.plan.specs.Records.{planOf}
 use Rattle.plan_reader.proofs.reasons.port_reason.Statement.{statement}
 use Rattle.plan_reader.proofs.reasons.port_reason.Tie as tie
 
-port-out-requires : tie.Need-port-out-requires
-port-out-requires c κs = search needs
-
 returns : tie.Need-returns
 unfolding portReason
 returns c = rw (sym (c .before .port-out .ensures) ∙ c .if1 .taken)
-
-port-again-requires : tie.Need-port-again-requires
-port-again-requires c κs = search needs
 
 returns-2 : tie.Need-returns-2
 unfolding portReason portNumbered planOf
@@ -29,5 +23,4 @@ returns-3 c =
     rw (sym (ranged .before .port-out .ensures) ∙ ranged .if1 .left, sym (c .before .port-again .ensures) ∙ c .if2 .left)
 
 pub port-reason-spec : {M : Type 1} → statement M
-port-reason-spec =
-    tie.close (tie.spec port-out-requires returns port-again-requires returns-2 returns-3)
+port-reason-spec = tie.close (tie.spec (search needs) returns (search needs) returns-2 returns-3)

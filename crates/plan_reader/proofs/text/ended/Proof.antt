@@ -6,12 +6,6 @@ use Rattle.plan_reader.specs.ReadPlan.{readingOf}
 use Rattle.plan_reader.proofs.text.ended.Statement.{statement}
 use Rattle.plan_reader.proofs.text.ended.Tie as tie
 
-none-held-requires : tie.Need-none-held-requires
-none-held-requires c κs = search needs
-
-faulty-requires : tie.Need-faulty-requires
-faulty-requires c κs = search needs
-
 returns : tie.Need-returns
 unfolding finished planOf
 returns c = rw (sym (c .before .before .none-held .ensures) ∙ c .before .if1 .taken) (c .faulty .ensures)
@@ -21,4 +15,4 @@ unfolding readingOf finished planOf
 returns-2 c = rw (sym (c .before .none-held .ensures) ∙ c .if1 .left)
 
 pub ended-spec : {M : Type 1} → statement M
-ended-spec = tie.close (tie.spec none-held-requires faulty-requires returns returns-2)
+ended-spec = tie.close (tie.spec (search needs) (search needs) returns returns-2)

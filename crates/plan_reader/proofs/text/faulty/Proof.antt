@@ -6,9 +6,6 @@ use Rattle.plan_reader.specs.ReadPlan.{readingOf}
 use Rattle.plan_reader.proofs.text.faulty.Statement.{statement}
 use Rattle.plan_reader.proofs.text.faulty.Tie as tie
 
-no-records-requires : tie.Need-no-records-requires
-no-records-requires c κs = search needs
-
 returns : tie.Need-returns
 unfolding readingOf
 returns c =
@@ -16,4 +13,4 @@ returns c =
     rw (ne-eqb (c .before .args .reason) 0 (λ z. omega (arith, z, q)))
 
 pub faulty-spec : {M : Type 1} → statement M
-faulty-spec = tie.close (tie.spec no-records-requires returns)
+faulty-spec = tie.close (tie.spec (search needs) returns)

@@ -5,15 +5,9 @@ use Rattle.plan.specs.Records.{heldPorts, heldFlows, planOf}
 use Rattle.plan_reader.proofs.text.no_records.Statement.{statement}
 use Rattle.plan_reader.proofs.text.no_records.Tie as tie
 
-no-port-requires : tie.Need-no-port-requires
-no-port-requires c κs = search needs
-
-no-flow-requires : tie.Need-no-flow-requires
-no-flow-requires c κs = search needs
-
 returns : tie.Need-returns
 unfolding planOf emptyPlan heldPorts heldFlows noPort noFlow
 returns c = rw (c .no-flow .ensures, c .before .no-port .ensures)
 
 pub no-records-spec : {M : Type 1} → statement M
-no-records-spec = tie.close (tie.spec no-port-requires no-flow-requires returns)
+no-records-spec = tie.close (tie.spec (search needs) (search needs) returns)

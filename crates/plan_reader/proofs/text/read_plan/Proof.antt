@@ -24,24 +24,15 @@ Inv-loop text records₀ n₀ at₀ records n at =
 abbrev μ-loop : tie.MeasureT-loop
 μ-loop text records₀ n₀ at₀ records n at = length text - at
 
-faulty-requires : tie.Need-faulty-requires Inv-loop μ-loop
-faulty-requires c κs = search needs
-
 returns : tie.Need-returns Inv-loop μ-loop
 unfolding planIn
 returns c = rw (lt-ltb _ _ (c .before .if1 .taken)) (c .faulty .ensures)
-
-no-records-requires : tie.Need-no-records-requires Inv-loop μ-loop
-no-records-requires c κs = search needs
 
 loop-holds : tie.Need-loop-holds Inv-loop μ-loop
 loop-holds c = (omega arith, omega arith, ap soFar (c .no-records .ensures) ∙ none-so-far, rw (c .no-records .ensures))
 
 end-of-requires : tie.Need-end-of-requires Inv-loop μ-loop
 end-of-requires c κs = c .before .loop .inv .0
-
-faulty-requires-2 : tie.Need-faulty-requires-2 Inv-loop μ-loop
-faulty-requires-2 c κs = search needs
 
 returns-2 : tie.Need-returns-2 Inv-loop μ-loop
 unfolding planIn
@@ -57,18 +48,6 @@ returns-2 c =
 
 sub-line-of : tie.Need-sub-line-of Inv-loop μ-loop
 sub-line-of c = c .before .end-of .ensures .1 .0
-
-part-line-of-start : tie.Need-part-line-of-start Inv-loop μ-loop
-part-line-of-start c = search needs
-
-part-line-of-end : tie.Need-part-line-of-end Inv-loop μ-loop
-part-line-of-end c = search needs
-
-line-of-requires : tie.Need-line-of-requires Inv-loop μ-loop
-line-of-requires c κs = search needs
-
-reason-of-requires : tie.Need-reason-of-requires Inv-loop μ-loop
-reason-of-requires c κs = search needs
 
 faulty-requires-3 : tie.Need-faulty-requires-3 Inv-loop μ-loop
 faulty-requires-3 c κs = omega (arith, c .if3 .taken)
@@ -126,9 +105,6 @@ loop-again c =
           (c .before .if3 .left) (c .with-line .ensures),
     )
 
-ended-requires : tie.Need-ended-requires Inv-loop μ-loop
-ended-requires c κs = search needs
-
 returns-4 : tie.Need-returns-4 Inv-loop μ-loop
 unfolding planIn parted readLines
 returns-4 c =
@@ -140,27 +116,6 @@ returns-4 c =
 pub read-plan-spec : {M : Type 1} → statement M
 read-plan-spec =
     tie.close
-    (tie.spec
-    Inv-loop
-    μ-loop
-    faulty-requires
-    returns
-    no-records-requires
-    loop-holds
-    end-of-requires
-    faulty-requires-2
-    returns-2
-    sub-line-of
-    part-line-of-start
-    part-line-of-end
-    line-of-requires
-    reason-of-requires
-    faulty-requires-3
-    returns-3
-    with-line-requires
-    add-n
-    add-at
-    loop-less
-    loop-again
-    ended-requires
-    returns-4)
+    (tie.spec Inv-loop μ-loop (search needs) returns (search needs) loop-holds end-of-requires (search needs) returns-2
+    sub-line-of (search needs) (search needs) (search needs) (search needs) faulty-requires-3 returns-3 with-line-requires add-n
+    add-at loop-less loop-again (search needs) returns-4)

@@ -1,43 +1,11 @@
-use mathlib.Core.Path.{refl}
 use borrow.Author.Needs.{needs}
-use Rattle.plan.specs.Plan.{flowKey, setKey}
+use Rattle.plan.specs.Plan.{flowKey}
 use Rattle.plan_records.proofs.records.key_of.Statement.{statement}
 use Rattle.plan_records.proofs.records.key_of.Tie as tie
 
-cast-result : tie.Need-cast-result
-cast-result c = search needs
-
-mul-result : tie.Need-mul-result
-mul-result c = search needs
-
-cast-result-2 : tie.Need-cast-result-2
-cast-result-2 c = search needs
-
-mul-result-2 : tie.Need-mul-result-2
-mul-result-2 c = search needs
-
-add-result : tie.Need-add-result
-add-result c = search needs
-
-cast-result-3 : tie.Need-cast-result-3
-cast-result-3 c = search needs
-
-add-result-2 : tie.Need-add-result-2
-add-result-2 c = search needs
-
 returns : tie.Need-returns
-unfolding flowKey setKey
-returns c = refl
+unfolding flowKey
+returns c = c .set-key .ensures
 
 pub key-of-spec : {M : Type 1} → statement M
-key-of-spec =
-    tie.close
-    (tie.spec
-    cast-result
-    mul-result
-    cast-result-2
-    mul-result-2
-    add-result
-    cast-result-3
-    add-result-2
-    returns)
+key-of-spec = tie.close (tie.spec (search needs) returns)

@@ -18,12 +18,6 @@ abbrev μ-loop : tie.MeasureT-loop
 loop-holds : tie.Need-loop-holds Inv-loop μ-loop
 loop-holds c = (omega arith, omega arith, omega arith)
 
-mul-f : tie.Need-mul-f Inv-loop μ-loop
-mul-f c = omega arith
-
-array-copy-out-f : tie.Need-array-copy-out-f Inv-loop μ-loop
-array-copy-out-f c = omega arith
-
 returns : tie.Need-returns Inv-loop μ-loop
 returns c =
     let a : _ = c .before .before .before .before .before .args in
@@ -31,17 +25,8 @@ returns c =
     let n : length (a .t1) ≡ 32 = search needs in
     omega (arith, mps-none (a .t1) (l .i) _ (omega arith) (c .if1 .taken), l .inv .2)
 
-mps-in-requires : tie.Need-mps-in-requires Inv-loop μ-loop
-mps-in-requires c κs = search needs
-
 add-n : tie.Need-add-n Inv-loop μ-loop
 add-n c = omega (arith, c .mps-in .ensures .1)
-
-add-i : tie.Need-add-i Inv-loop μ-loop
-add-i c = omega arith
-
-loop-less : tie.Need-loop-less Inv-loop μ-loop
-loop-less c = omega arith
 
 loop-again : tie.Need-loop-again Inv-loop μ-loop
 loop-again c =
@@ -61,16 +46,5 @@ returns-2 c =
 pub mps-held-spec : {M : Type 1} → statement M
 mps-held-spec =
     tie.close
-    (tie.spec
-    Inv-loop
-    μ-loop
-    loop-holds
-    mul-f
-    array-copy-out-f
-    returns
-    mps-in-requires
-    add-n
-    add-i
-    loop-less
-    loop-again
-    returns-2)
+    (tie.spec Inv-loop μ-loop loop-holds (λ c. omega arith) (λ c. omega arith) returns (search needs) add-n (λ c. omega arith)
+    (λ c. omega arith) loop-again returns-2)

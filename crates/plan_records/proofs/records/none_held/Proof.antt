@@ -6,9 +6,6 @@ use Rattle.plan.proofs.HeldLaws.{port-rows, rows-none, rows-some}
 use Rattle.plan_records.proofs.records.none_held.Statement.{statement}
 use Rattle.plan_records.proofs.records.none_held.Tie as tie
 
-array-copy-out-p : tie.Need-array-copy-out-p
-array-copy-out-p c = search needs
-
 returns : tie.Need-returns
 returns c =
     let a : _ = c .before .before .before .args in
@@ -22,4 +19,4 @@ returns-2 c =
     rows-some port-rows (a .t1) 0 _ (omega arith) (c .if1 .left)
 
 pub none-held-spec : {M : Type 1} → statement M
-none-held-spec = tie.close (tie.spec array-copy-out-p returns returns-2)
+none-held-spec = tie.close (tie.spec (search needs) returns returns-2)

@@ -8,15 +8,6 @@ use Rattle.plan_records.proofs.InsertLaws.{place-put}
 use Rattle.plan_records.proofs.rows.flow_put.Statement.{statement}
 use Rattle.plan_records.proofs.rows.flow_put.Tie as tie
 
-key-of-requires : tie.Need-key-of-requires
-key-of-requires c κs = search needs
-
-flow-place-requires : tie.Need-flow-place-requires
-flow-place-requires c κs = search needs
-
-flow-at-requires : tie.Need-flow-at-requires
-flow-at-requires c κs = search needs
-
 returns : tie.Need-returns
 returns c =
     let a : _ = c .before .before .before .args in
@@ -26,4 +17,4 @@ returns c =
     (place-put flow-rows flowKey (a .flow) (λ z. omega (arith, z, q .0)) (a .flows) (omega (arith, n, q .1 .0)) (q .1 .1))
 
 pub flow-put-spec : {M : Type 1} → statement M
-flow-put-spec = tie.close (tie.spec key-of-requires flow-place-requires flow-at-requires returns)
+flow-put-spec = tie.close (tie.spec (search needs) (search needs) (search needs) returns)

@@ -20,27 +20,6 @@ abbrev μ-loop : tie.MeasureT-loop
 loop-holds : tie.Need-loop-holds Inv-loop μ-loop
 loop-holds c = (omega arith, search needs, changed-all _ _)
 
-mul-f : tie.Need-mul-f Inv-loop μ-loop
-mul-f c = omega arith
-
-array-copy-out-f : tie.Need-array-copy-out-f Inv-loop μ-loop
-array-copy-out-f c = omega arith
-
-mp-put-requires : tie.Need-mp-put-requires Inv-loop μ-loop
-mp-put-requires c κs = search needs
-
-mul-rows : tie.Need-mul-rows Inv-loop μ-loop
-mul-rows c = omega arith
-
-array-set-from-rows : tie.Need-array-set-from-rows Inv-loop μ-loop
-array-set-from-rows c = omega arith
-
-add-i : tie.Need-add-i Inv-loop μ-loop
-add-i c = omega arith
-
-loop-less : tie.Need-loop-less Inv-loop μ-loop
-loop-less c = omega arith
-
 loop-again : tie.Need-loop-again Inv-loop μ-loop
 loop-again c =
     let l : _ = c .before .before .before .loop in
@@ -59,16 +38,5 @@ returns c =
 pub mps-put-spec : {M : Type 1} → statement M
 mps-put-spec =
     tie.close
-    (tie.spec
-    Inv-loop
-    μ-loop
-    loop-holds
-    mul-f
-    array-copy-out-f
-    mp-put-requires
-    mul-rows
-    array-set-from-rows
-    add-i
-    loop-less
-    loop-again
-    returns)
+    (tie.spec Inv-loop μ-loop loop-holds (λ c. omega arith) (λ c. omega arith) (search needs) (λ c. omega arith)
+    (λ c. omega arith) (λ c. omega arith) (λ c. omega arith) loop-again returns)

@@ -7,12 +7,6 @@ use Rattle.plan_records.proofs.InsertLaws.{place-put}
 use Rattle.plan_records.proofs.rows.port_put.Statement.{statement}
 use Rattle.plan_records.proofs.rows.port_put.Tie as tie
 
-port-place-requires : tie.Need-port-place-requires
-port-place-requires c κs = search needs
-
-port-at-requires : tie.Need-port-at-requires
-port-at-requires c κs = search needs
-
 returns : tie.Need-returns
 returns c =
     let a : _ = c .before .before .args in
@@ -23,4 +17,4 @@ returns c =
     (q .1 .1))
 
 pub port-put-spec : {M : Type 1} → statement M
-port-put-spec = tie.close (tie.spec port-place-requires port-at-requires returns)
+port-put-spec = tie.close (tie.spec (search needs) (search needs) returns)

@@ -7,15 +7,9 @@ use borrow.Author.Needs.{needs}
 use Rattle.state.proofs.fields.allows.Statement.{statement}
 use Rattle.state.proofs.fields.allows.Tie as tie
 
-add-result : tie.Need-add-result
-add-result c = search needs
-
-shared-slice-read-result : tie.Need-shared-slice-read-result
-shared-slice-read-result c = search needs
-
 returns : tie.Need-returns
 unfolding isAllowed stateOf
 returns c = allowed-at (now (c .before .args .b)) (c .before .args .flow) (omega arith) (omega arith)
 
 pub allows-spec : {M : Type 1} → statement M
-allows-spec = tie.close (tie.spec add-result shared-slice-read-result returns)
+allows-spec = tie.close (tie.spec (λ c. search needs) (λ c. search needs) returns)

@@ -3,12 +3,9 @@ use borrow.Author.Needs.{needs}
 use Rattle.state.proofs.fields.clock_of.Statement.{statement}
 use Rattle.state.proofs.fields.clock_of.Tie as tie
 
-low4-requires : tie.Need-low4-requires
-low4-requires c κs = search needs
-
 returns : tie.Need-returns
 unfolding stateOf
 returns c = c .low4 .ensures
 
 pub clock-of-spec : {M : Type 1} → statement M
-clock-of-spec = tie.close (tie.spec low4-requires returns)
+clock-of-spec = tie.close (tie.spec (λ c κs. search needs) returns)

@@ -5,9 +5,6 @@ use borrow.Author.Needs.{needs}
 use Rattle.state.proofs.fields.find_machine.Statement.{statement}
 use Rattle.state.proofs.fields.find_machine.Tie as tie
 
-session-at-requires : tie.Need-session-at-requires
-session-at-requires c κs = search needs
-
 returns : tie.Need-returns
 returns c =
     let r : _ = c .before .session-at .ensures in
@@ -29,5 +26,4 @@ returns-3 c =
     (r, machine-open _ _ r (t .before .if1 .left) (t .read-session .ensures .0) (c .if2 .left))
 
 pub find-machine-spec : {M : Type 1} → statement M
-find-machine-spec =
-    tie.close (tie.spec session-at-requires returns read-session-requires returns-2 returns-3)
+find-machine-spec = tie.close (tie.spec (λ c κs. search needs) returns read-session-requires returns-2 returns-3)

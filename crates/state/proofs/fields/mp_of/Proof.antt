@@ -9,29 +9,10 @@ returns c = mp-none _ _ _ (c .if1 .taken)
 returns-2 : tie.Need-returns-2
 returns-2 c = mp-above _ _ _ (c .before .if1 .left) (c .if2 .taken)
 
-add-result : tie.Need-add-result
-add-result c = search needs
-
-wide-requires : tie.Need-wide-requires
-wide-requires c κs = search needs
-
-add-result-2 : tie.Need-add-result-2
-add-result-2 c = search needs
-
-shared-slice-read-result : tie.Need-shared-slice-read-result
-shared-slice-read-result c = search needs
-
 returns-3 : tie.Need-returns-3
 returns-3 c = mp-here _ _ _ (c .before .before .before .if1 .left) (c .before .before .if2 .left) (c .before .wide .ensures .0)
 
 pub mp-of-spec : {M : Type 1} → statement M
 mp-of-spec =
     tie.close
-    (tie.spec
-    returns
-    returns-2
-    add-result
-    wide-requires
-    add-result-2
-    shared-slice-read-result
-    returns-3)
+    (tie.spec returns returns-2 (λ c. search needs) (λ c κs. search needs) (λ c. search needs) (λ c. search needs) returns-3)

@@ -3,11 +3,8 @@ use borrow.Author.Needs.{needs}
 use Rattle.state.proofs.fields.notice_due.Statement.{statement}
 use Rattle.state.proofs.fields.notice_due.Tie as tie
 
-owed-at-requires : tie.Need-owed-at-requires
-owed-at-requires c κs = search needs
-
 returns : tie.Need-returns
 returns c = notice-found _ (c .owed-at .ensures)
 
 pub notice-due-spec : {M : Type 1} → statement M
-notice-due-spec = tie.close (tie.spec owed-at-requires returns)
+notice-due-spec = tie.close (tie.spec (λ c κs. search needs) returns)

@@ -16,47 +16,18 @@ abbrev μ-loop : tie.MeasureT-loop
 loop-holds : tie.Need-loop-holds Inv-loop μ-loop
 loop-holds c = count-start 16 32 sessionIn isOpen 1536 _
 
-mul-at : tie.Need-mul-at Inv-loop μ-loop
-mul-at c = omega arith
-
-add-at : tie.Need-add-at Inv-loop μ-loop
-add-at c = omega arith
-
-low8-requires : tie.Need-low8-requires Inv-loop μ-loop
-low8-requires c κs = omega arith
-
 returns : tie.Need-returns Inv-loop μ-loop
 unfolding stateOf
 returns c = count-end (c .before .before .before .loop .inv) (omega arith) (c .before .low8 .ensures) (c .if1 .taken)
 
-add-open-mark : tie.Need-add-open-mark Inv-loop μ-loop
-add-open-mark c = omega arith
-
-shared-slice-read-open-mark : tie.Need-shared-slice-read-open-mark Inv-loop μ-loop
-shared-slice-read-open-mark c = omega arith
-
-open-mark-requires : tie.Need-open-mark-requires Inv-loop μ-loop
-open-mark-requires c κs = tt
-
 add-n : tie.Need-add-n Inv-loop μ-loop
 add-n c = omega (arith, c .before .before .before .before .before .loop .inv .few)
-
-add-i : tie.Need-add-i Inv-loop μ-loop
-add-i c = omega arith
-
-loop-less : tie.Need-loop-less Inv-loop μ-loop
-loop-less c = omega arith
 
 loop-again : tie.Need-loop-again Inv-loop μ-loop
 unfolding sessionIn isOpen
 loop-again c =
-    count-next
-    (c .before .before .before .before .before .loop .inv)
-    (omega arith)
-    (c .before .before .before .low8 .ensures)
-    (c .before .before .if1 .left)
-    (rw getD-drop (c .open-mark .ensures .0))
-    (c .open-mark .ensures .1)
+    count-next (c .before .before .before .before .before .loop .inv) (omega arith) (c .before .before .before .low8 .ensures)
+    (c .before .before .if1 .left) (rw getD-drop (c .open-mark .ensures .0)) (c .open-mark .ensures .1)
 
 returns-2 : tie.Need-returns-2 Inv-loop μ-loop
 unfolding stateOf
@@ -65,19 +36,5 @@ returns-2 c = count-done (c .before .loop .inv) (omega arith)
 pub open-count-spec : {M : Type 1} → statement M
 open-count-spec =
     tie.close
-    (tie.spec
-    Inv-loop
-    μ-loop
-    loop-holds
-    mul-at
-    add-at
-    low8-requires
-    returns
-    add-open-mark
-    shared-slice-read-open-mark
-    open-mark-requires
-    add-n
-    add-i
-    loop-less
-    loop-again
-    returns-2)
+    (tie.spec Inv-loop μ-loop loop-holds (λ c. omega arith) (λ c. omega arith) (λ c κs. omega arith) returns (λ c. omega arith)
+    (λ c. omega arith) (λ c κs. tt) add-n (λ c. omega arith) (λ c. omega arith) loop-again returns-2)

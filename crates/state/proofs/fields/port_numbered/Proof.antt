@@ -7,9 +7,6 @@ use borrow.Author.Needs.{needs}
 use Rattle.state.proofs.fields.port_numbered.Statement.{statement}
 use Rattle.state.proofs.fields.port_numbered.Tie as tie
 
-port-at-requires : tie.Need-port-at-requires
-port-at-requires c κs = search needs
-
 returns : tie.Need-returns
 unfolding noPort
 returns c = port-found _ _ (c .before .port-at .ensures) .nothing (c .if1 .taken)
@@ -21,4 +18,4 @@ returns-2 : tie.Need-returns-2
 returns-2 c = c .read-port .ensures ∙ port-found _ _ (c .before .before .port-at .ensures) .something (c .before .if1 .left)
 
 pub port-numbered-spec : {M : Type 1} → statement M
-port-numbered-spec = tie.close (tie.spec port-at-requires returns read-port-requires returns-2)
+port-numbered-spec = tie.close (tie.spec (λ c κs. search needs) returns read-port-requires returns-2)

@@ -13,15 +13,6 @@ returns-2 : tie.Need-returns-2
 unfolding numberedAt within
 returns-2 c = simp (le-leb 1 _ (c .before .if1 .left), lt-leb _ 32 (c .if2 .taken))
 
-add-row-at-place : tie.Need-add-row-at-place
-add-row-at-place c = search needs
-
-shared-slice-read-row-at-place : tie.Need-shared-slice-read-row-at-place
-shared-slice-read-row-at-place c = search needs
-
-row-at-place-requires : tie.Need-row-at-place-requires
-row-at-place-requires c κs = search needs
-
 returns-3 : tie.Need-returns-3
 unfolding numberedAt within
 returns-3 c =
@@ -32,12 +23,4 @@ returns-3 c =
     )
 
 pub numbered-at-spec : {M : Type 1} → statement M
-numbered-at-spec =
-    tie.close
-    (tie.spec
-    returns
-    returns-2
-    add-row-at-place
-    shared-slice-read-row-at-place
-    row-at-place-requires
-    returns-3)
+numbered-at-spec = tie.close (tie.spec returns returns-2 (λ c. search needs) (λ c. search needs) (λ c κs. search needs) returns-3)

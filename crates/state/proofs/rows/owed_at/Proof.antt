@@ -20,49 +20,20 @@ abbrev μ-loop : tie.MeasureT-loop
 loop-holds : tie.Need-loop-holds Inv-loop μ-loop
 loop-holds c = find-start 16 32 _ 1536 _
 
-mul-at : tie.Need-mul-at Inv-loop μ-loop
-mul-at c = omega arith
-
-add-at : tie.Need-add-at Inv-loop μ-loop
-add-at c = omega arith
-
-low8-requires : tie.Need-low8-requires Inv-loop μ-loop
-low8-requires c κs = omega arith
-
 returns : tie.Need-returns Inv-loop μ-loop
 unfolding owedAt
 returns c = find-end (c .before .before .before .loop .inv) (omega arith) (c .before .low8 .ensures) (c .if1 .taken)
 
-add-if2 : tie.Need-add-if2 Inv-loop μ-loop
-add-if2 c = omega arith
-
-shared-slice-read-if2 : tie.Need-shared-slice-read-if2 Inv-loop μ-loop
-shared-slice-read-if2 c = omega arith
-
 returns-2 : tie.Need-returns-2 Inv-loop μ-loop
 unfolding owedAt
 returns-2 c =
-    find-hit
-    (c .before .before .before .before .before .loop .inv)
-    (omega arith)
-    (c .before .before .before .low8 .ensures)
-    (c .before .before .if1 .left)
-    (rw getD-drop (ap not (ne-eqb _ _ (c .if2 .taken))))
-
-add-i : tie.Need-add-i Inv-loop μ-loop
-add-i c = omega arith
-
-loop-less : tie.Need-loop-less Inv-loop μ-loop
-loop-less c = omega arith
+    find-hit (c .before .before .before .before .before .loop .inv) (omega arith) (c .before .before .before .low8 .ensures)
+    (c .before .before .if1 .left) (rw getD-drop (ap not (ne-eqb _ _ (c .if2 .taken))))
 
 loop-again : tie.Need-loop-again Inv-loop μ-loop
 loop-again c =
-    find-next
-    (c .before .before .before .before .before .loop .inv)
-    (omega arith)
-    (c .before .before .before .low8 .ensures)
-    (c .before .before .if1 .left)
-    (rw getD-drop (ap not (eq-eqb _ _ (c .if2 .left))))
+    find-next (c .before .before .before .before .before .loop .inv) (omega arith) (c .before .before .before .low8 .ensures)
+    (c .before .before .if1 .left) (rw getD-drop (ap not (eq-eqb _ _ (c .if2 .left))))
 
 returns-3 : tie.Need-returns-3 Inv-loop μ-loop
 unfolding owedAt
@@ -71,18 +42,5 @@ returns-3 c = find-done (c .before .loop .inv) (omega arith)
 pub owed-at-spec : {M : Type 1} → statement M
 owed-at-spec =
     tie.close
-    (tie.spec
-    Inv-loop
-    μ-loop
-    loop-holds
-    mul-at
-    add-at
-    low8-requires
-    returns
-    add-if2
-    shared-slice-read-if2
-    returns-2
-    add-i
-    loop-less
-    loop-again
-    returns-3)
+    (tie.spec Inv-loop μ-loop loop-holds (λ c. omega arith) (λ c. omega arith) (λ c κs. omega arith) returns (λ c. omega arith)
+    (λ c. omega arith) returns-2 (λ c. omega arith) (λ c. omega arith) loop-again returns-3)

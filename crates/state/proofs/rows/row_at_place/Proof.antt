@@ -13,19 +13,11 @@ returns-2 : tie.Need-returns-2
 unfolding rowAtPlace within
 returns-2 c = simp (le-leb 1 _ (c .before .if1 .left), lt-leb _ 32 (c .if2 .taken))
 
-wide-requires : tie.Need-wide-requires
-wide-requires c κs = search needs
-
-mul-result : tie.Need-mul-result
-mul-result c = search needs
-
-add-result : tie.Need-add-result
-add-result c = search needs
-
 returns-3 : tie.Need-returns-3
 unfolding rowAtPlace within
 returns-3 c = simp (le-leb 1 _ (c .before .before .if1 .left), le-leb _ 32 (c .before .if2 .left), c .wide .ensures .0)
 
 pub row-at-place-spec : {M : Type 1} → statement M
 row-at-place-spec =
-    tie.close (tie.spec returns returns-2 wide-requires mul-result add-result returns-3)
+    tie.close
+    (tie.spec returns returns-2 (λ c κs. search needs) (λ c. search needs) (λ c. search needs) returns-3)

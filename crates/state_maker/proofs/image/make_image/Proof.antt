@@ -1,30 +1,13 @@
 use denote.Ref.{now}
 use Rattle.plan.specs.Records.{planOf}
+use Rattle.state.specs.State.{made}
 use Rattle.state_maker.proofs.Made.{made-image}
 use borrow.Author.Needs.{needs}
 use Rattle.state_maker.proofs.image.make_image.Statement.{statement}
 use Rattle.state_maker.proofs.image.make_image.Tie as tie
 
-clear-requires : tie.Need-clear-requires
-clear-requires c κs = search needs
-
-put-low4-requires : tie.Need-put-low4-requires
-put-low4-requires c κs = search needs
-
-put-ports-requires : tie.Need-put-ports-requires
-put-ports-requires c κs = search needs
-
-put-flows-requires : tie.Need-put-flows-requires
-put-flows-requires c κs = search needs
-
-put-places-requires : tie.Need-put-places-requires
-put-places-requires c κs = search needs
-
-same-length : tie.Need-same-length
-same-length c = search needs
-
 returns : tie.Need-returns
-unfolding planOf
+unfolding planOf made
 returns c =
     let g : _ = c .before .before in
     let f : _ = g .before .before .before .before in
@@ -39,11 +22,5 @@ returns c =
 pub make-image-spec : {M : Type 1} → statement M
 make-image-spec =
     tie.close
-    (tie.spec
-    clear-requires
-    put-low4-requires
-    put-ports-requires
-    put-flows-requires
-    put-places-requires
-    same-length
-    returns)
+    (tie.spec (λ c κs. search needs) (λ c κs. search needs) (λ c κs. search needs) (λ c κs. search needs) (λ c κs. search needs)
+    (λ c. search needs) returns)

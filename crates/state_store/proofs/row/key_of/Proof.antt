@@ -1,21 +1,11 @@
-use mathlib.Core.Path.{refl}
-use Rattle.machine.specs.Machine.{key, keyOf}
+use Rattle.machine.specs.Machine.{keyOf}
 use borrow.Author.Needs.{needs}
 use Rattle.state_store.proofs.row.key_of.Statement.{statement}
 use Rattle.state_store.proofs.row.key_of.Tie as tie
 
-cast-result : tie.Need-cast-result
-cast-result c = search needs
-
-mul-result : tie.Need-mul-result
-mul-result c = search needs
-
-add-result : tie.Need-add-result
-add-result c = search needs
-
 returns : tie.Need-returns
-unfolding keyOf key
-returns c = refl
+unfolding keyOf
+returns c = c .key .ensures
 
 pub key-of-spec : {M : Type 1} → statement M
-key-of-spec = tie.close (tie.spec cast-result mul-result add-result returns)
+key-of-spec = tie.close (tie.spec (search needs) returns)

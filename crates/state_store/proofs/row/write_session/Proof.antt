@@ -5,21 +5,6 @@ use borrow.Author.Needs.{needs}
 use Rattle.state_store.proofs.row.write_session.Statement.{statement}
 use Rattle.state_store.proofs.row.write_session.Tie as tie
 
-key-octets-requires : tie.Need-key-octets-requires
-key-octets-requires c κs = search needs
-
-slice-aggregate-put-at : tie.Need-slice-aggregate-put-at
-slice-aggregate-put-at c = search needs
-
-put-at-requires : tie.Need-put-at-requires
-put-at-requires c κs = search needs
-
-write-rest-requires : tie.Need-write-rest-requires
-write-rest-requires c κs = search needs
-
-same-length : tie.Need-same-length
-same-length c = search needs
-
 returns : tie.Need-returns
 returns c =
     let p : _ = c .before .before .before .before .before .before in
@@ -31,12 +16,4 @@ returns c =
     (c .before .before .write-rest .ensures)
 
 pub write-session-spec : {M : Type 1} → statement M
-write-session-spec =
-    tie.close
-    (tie.spec
-    key-octets-requires
-    slice-aggregate-put-at
-    put-at-requires
-    write-rest-requires
-    same-length
-    returns)
+write-session-spec = tie.close (tie.spec (search needs) (search needs) (search needs) (search needs) (search needs) returns)

@@ -51,16 +51,4 @@ returns-3 c = place-done _ _ _ _ _ _ _ (c .loop-test .left) (omega arith) (c .be
 pub place-of-spec : {M : Type 1} → statement M
 place-of-spec =
     tie.close
-    (tie.spec
-    Inv-loop
-    μ-loop
-    loop-holds
-    mul-at
-    add-at
-    low8-requires
-    returns
-    returns-2
-    add-i
-    loop-less
-    loop-again
-    returns-3)
+    (tie.spec Inv-loop μ-loop loop-holds mul-at add-at low8-requires returns returns-2 add-i loop-less loop-again returns-3)

@@ -5,12 +5,6 @@ use borrow.Author.Needs.{needs}
 use Rattle.state_store.proofs.session.put_session.Statement.{statement}
 use Rattle.state_store.proofs.session.put_session.Tie as tie
 
-insert-session-requires : tie.Need-insert-session-requires
-insert-session-requires c κs = search needs
-
-same-length : tie.Need-same-length
-same-length c = search needs
-
 returns : tie.Need-returns
 returns c =
     let t : _ = c .before .before .before .before in
@@ -21,9 +15,6 @@ write-rest-requires c κs =
     let p : _ = c .before .before .before .pre in
     omega (arith, p .0, session-fits _ _ (p .1 .1))
 
-same-length-2 : tie.Need-same-length-2
-same-length-2 c = search needs
-
 returns-2 : tie.Need-returns-2
 returns-2 c =
     let t : _ = c .before .before .before .before in
@@ -32,12 +23,4 @@ returns-2 c =
     (c .before .before .write-rest .ensures)
 
 pub put-session-spec : {M : Type 1} → statement M
-put-session-spec =
-    tie.close
-    (tie.spec
-    insert-session-requires
-    same-length
-    returns
-    write-rest-requires
-    same-length-2
-    returns-2)
+put-session-spec = tie.close (tie.spec (search needs) (search needs) returns write-rest-requires (search needs) returns-2)

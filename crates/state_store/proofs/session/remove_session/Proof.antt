@@ -6,24 +6,10 @@ use Rattle.state_store.proofs.session.remove_session.Tie as tie
 returns : tie.Need-returns
 returns c = removed-none _ _ (c .if1 .taken)
 
-add-move-down : tie.Need-add-move-down
-add-move-down c = search needs
-
-move-down-requires : tie.Need-move-down-requires
-move-down-requires c κs = search needs
-
-clear-requires : tie.Need-clear-requires
-clear-requires c κs = search needs
-
-same-length : tie.Need-same-length
-same-length c = search needs
-
 returns-2 : tie.Need-returns-2
 returns-2 c =
     let m : _ = c .before .before .before .before .before .before in
     removed-there _ _ (m .before .before .if1 .left) (m .move-down .ensures) (c .before .before .clear .ensures)
 
 pub remove-session-spec : {M : Type 1} → statement M
-remove-session-spec =
-    tie.close
-    (tie.spec returns add-move-down move-down-requires clear-requires same-length returns-2)
+remove-session-spec = tie.close (tie.spec returns (search needs) (search needs) (search needs) (search needs) returns-2)

@@ -4,15 +4,9 @@ use borrow.Author.Needs.{needs}
 use Rattle.state_store.proofs.sessions.clear_sessions.Statement.{statement}
 use Rattle.state_store.proofs.sessions.clear_sessions.Tie as tie
 
-clear-requires : tie.Need-clear-requires
-clear-requires c κs = search needs
-
-same-length : tie.Need-same-length
-same-length c = search needs
-
 returns : tie.Need-returns
 unfolding sessionsCleared zeros
 returns c = c .before .before .clear .ensures
 
 pub clear-sessions-spec : {M : Type 1} → statement M
-clear-sessions-spec = tie.close (tie.spec clear-requires same-length returns)
+clear-sessions-spec = tie.close (tie.spec (search needs) (search needs) returns)

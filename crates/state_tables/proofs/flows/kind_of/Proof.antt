@@ -10,9 +10,6 @@ use Rattle.state.proofs.Inside.{port-fits}
 use Rattle.state_tables.proofs.flows.kind_of.Statement.{statement}
 use Rattle.state_tables.proofs.flows.kind_of.Tie as tie
 
-port-at-requires : tie.Need-port-at-requires
-port-at-requires c κs = search needs
-
 returns : tie.Need-returns
 unfolding noPort
 returns c = ap (λ (p : Port). p .kind) (port-found _ _ (c .before .port-at .ensures) .nothing (c .if1 .taken))
@@ -30,5 +27,4 @@ returns-2 c =
     at (ap (λ (p : Port). p .kind) (port-found _ _ (c .before .before .port-at .ensures) .something (c .before .if1 .left)))
 
 pub kind-of-spec : {M : Type 1} → statement M
-kind-of-spec =
-    tie.close (tie.spec port-at-requires returns add-result shared-slice-read-result returns-2)
+kind-of-spec = tie.close (tie.spec (λ c κs. search needs) returns add-result shared-slice-read-result returns-2)

@@ -6,23 +6,8 @@ use Rattle.state_tables.proofs.flows.marks_fit.Tie as tie
 returns : tie.Need-returns
 returns c = rw (ne-eqb _ _ (c .if1 .taken))
 
-octet-sum-requires : tie.Need-octet-sum-requires
-octet-sum-requires c κs = search needs
-
 returns-2 : tie.Need-returns-2
 returns-2 c = rw (c .before .before .if1 .left, ← c .before .octet-sum .ensures, lt-leb _ _ (c .if2 .taken))
-
-sub-used : tie.Need-sub-used
-sub-used c = search needs
-
-part-used-start : tie.Need-part-used-start
-part-used-start c = search needs
-
-part-used-end : tie.Need-part-used-end
-part-used-end c = search needs
-
-used-requires : tie.Need-used-requires
-used-requires c κs = search needs
 
 returns-3 : tie.Need-returns-3
 returns-3 c =
@@ -36,12 +21,5 @@ returns-3 c =
 pub marks-fit-spec : {M : Type 1} → statement M
 marks-fit-spec =
     tie.close
-    (tie.spec
-    returns
-    octet-sum-requires
-    returns-2
-    sub-used
-    part-used-start
-    part-used-end
-    used-requires
-    returns-3)
+    (tie.spec returns (λ c κs. search needs) returns-2 (λ c. search needs) (λ c. search needs) (λ c. search needs)
+    (λ c κs. search needs) returns-3)

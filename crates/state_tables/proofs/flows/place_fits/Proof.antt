@@ -17,18 +17,6 @@ returns-3 : tie.Need-returns-3
 unfolding placeFits within
 returns-3 c = rw (c .before .before .if1 .left, le-leb _ _ (c .before .if2 .left), lt-leb _ _ (c .if3 .taken))
 
-cast-wide : tie.Need-cast-wide
-cast-wide c = search needs
-
-add-wide : tie.Need-add-wide
-add-wide c = search needs
-
-shared-slice-read-wide : tie.Need-shared-slice-read-wide
-shared-slice-read-wide c = search needs
-
-wide-requires : tie.Need-wide-requires
-wide-requires c κs = search needs
-
 returns-4 : tie.Need-returns-4
 unfolding placeFits within
 returns-4 c =
@@ -42,12 +30,5 @@ returns-4 c =
 pub place-fits-spec : {M : Type 1} → statement M
 place-fits-spec =
     tie.close
-    (tie.spec
-    returns
-    returns-2
-    returns-3
-    cast-wide
-    add-wide
-    shared-slice-read-wide
-    wide-requires
+    (tie.spec returns returns-2 returns-3 (λ c. search needs) (λ c. search needs) (λ c. search needs) (λ c κs. search needs)
     returns-4)

@@ -15,12 +15,6 @@ returns-2 : tie.Need-returns-2
 unfolding setFits
 returns-2 c = rw (ne-eqb _ _ (c .before .if1 .left), c .if2 .taken)
 
-add-base : tie.Need-add-base
-add-base c = search needs
-
-mul-base : tie.Need-mul-base
-mul-base c = search needs
-
 returns-3 : tie.Need-returns-3
 unfolding setFits within
 returns-3 c =
@@ -30,9 +24,6 @@ returns-3 c =
       ne-eqb _ _ (c .before .if2 .left),
       lt-leb ((a .kind + 1) * 65536 + 1) (a .set) (omega arith),
     )
-
-add-result : tie.Need-add-result
-add-result c = search needs
 
 returns-4 : tie.Need-returns-4
 unfolding setFits within
@@ -46,4 +37,5 @@ returns-4 c =
 
 pub set-fits-spec : {M : Type 1} → statement M
 set-fits-spec =
-    tie.close (tie.spec returns returns-2 add-base mul-base returns-3 add-result returns-4)
+    tie.close
+    (tie.spec returns returns-2 (λ c. search needs) (λ c. search needs) returns-3 (λ c. search needs) returns-4)

@@ -19,21 +19,6 @@ abbrev μ-loop : tie.MeasureT-loop
 loop-holds : tie.Need-loop-holds Inv-loop μ-loop
 loop-holds c = refl
 
-shared-slice-read-wrong : tie.Need-shared-slice-read-wrong Inv-loop μ-loop
-shared-slice-read-wrong c = omega arith
-
-shared-slice-read-wrong-2 : tie.Need-shared-slice-read-wrong-2 Inv-loop μ-loop
-shared-slice-read-wrong-2 c = omega arith
-
-wrong-requires : tie.Need-wrong-requires Inv-loop μ-loop
-wrong-requires c κs = tt
-
-add-i : tie.Need-add-i Inv-loop μ-loop
-add-i c = omega arith
-
-loop-less : tie.Need-loop-less Inv-loop μ-loop
-loop-less c = omega arith
-
 loop-again : tie.Need-loop-again Inv-loop μ-loop
 loop-again c =
     let a : _ = c .before .before .before .before .before .before .before .args in
@@ -50,14 +35,5 @@ returns c =
 pub allowed-fits-spec : {M : Type 1} → statement M
 allowed-fits-spec =
     tie.close
-    (tie.spec
-    Inv-loop
-    μ-loop
-    loop-holds
-    shared-slice-read-wrong
-    shared-slice-read-wrong-2
-    wrong-requires
-    add-i
-    loop-less
-    loop-again
-    returns)
+    (tie.spec Inv-loop μ-loop loop-holds (λ c. omega arith) (λ c. omega arith) (λ c κs. tt) (λ c. omega arith) (λ c. omega arith)
+    loop-again returns)

@@ -1,12 +1,13 @@
 use mathlib.Core.Path.{_≡_, sym, _∙_}
 use Prim.Native.Nat.{_+_, _-_, _≤_}
-use native.Mathlib.Nat.{zero-add}
+use native.Mathlib.Nat.{zero-add, add-assoc}
 use native.Mathlib.Omega.{arith}
 use lib.Dec.{leb}
 use lib.ListN.{length, drop}
 use denote.Ref.{now}
 use Rattle.octets.specs.Lists.{count}
-use Rattle.state_tables.proofs.MarkTurns.{count-turn, count-end}
+use Rattle.plan.proofs.HeldLaws.{count-turn}
+use Rattle.state_tables.proofs.MarkTurns.{count-end}
 use Rattle.state_tables.proofs.marks.used.Statement.{statement}
 use Rattle.state_tables.proofs.marks.used.Tie as tie
 
@@ -19,26 +20,11 @@ abbrev μ-loop : tie.MeasureT-loop
 loop-holds : tie.Need-loop-holds Inv-loop μ-loop
 loop-holds c = (omega arith, rw zero-add)
 
-shared-slice-read-mark : tie.Need-shared-slice-read-mark Inv-loop μ-loop
-shared-slice-read-mark c = omega arith
-
-mark-requires : tie.Need-mark-requires Inv-loop μ-loop
-mark-requires c κs = tt
-
-add-n : tie.Need-add-n Inv-loop μ-loop
-add-n c = omega arith
-
-add-i : tie.Need-add-i Inv-loop μ-loop
-add-i c = omega arith
-
-loop-less : tie.Need-loop-less Inv-loop μ-loop
-loop-less c = omega arith
-
 loop-again : tie.Need-loop-again Inv-loop μ-loop
 loop-again c =
     let p : _ = now (c .before .before .before .before .before .args .places) in
     let l : _ = c .before .before .before .loop in
-    (omega (arith, c .mark .ensures .1), rw (c .mark .ensures .0, count-turn (leb 1) p (l .i) (l .n) (omega arith)) (l .inv .1))
+    (omega (arith, c .mark .ensures .1), rw (c .mark .ensures .0, add-assoc, ← count-turn (leb 1) p (l .i) 0 (omega arith)) (l .inv .1))
 
 returns : tie.Need-returns Inv-loop μ-loop
 returns c =
@@ -48,14 +34,5 @@ returns c =
 pub used-spec : {M : Type 1} → statement M
 used-spec =
     tie.close
-    (tie.spec
-    Inv-loop
-    μ-loop
-    loop-holds
-    shared-slice-read-mark
-    mark-requires
-    add-n
-    add-i
-    loop-less
-    loop-again
-    returns)
+    (tie.spec Inv-loop μ-loop loop-holds (λ c. omega arith) (λ c κs. tt) (λ c. omega arith) (λ c. omega arith) (λ c. omega arith)
+    loop-again returns)

@@ -17,20 +17,11 @@ abbrev μ-loop : tie.MeasureT-loop
 loop-holds : tie.Need-loop-holds Inv-loop μ-loop
 loop-holds c = (omega arith, refl)
 
-mul-at : tie.Need-mul-at Inv-loop μ-loop
-mul-at c = omega arith
-
-low8-requires : tie.Need-low8-requires Inv-loop μ-loop
-low8-requires c κs = omega arith
-
 returns : tie.Need-returns Inv-loop μ-loop
 returns c =
     let l : _ = c .before .before .before .loop in
     let a : _ = c .before .before .before .before .before .args in
     again-end (a .address) (l .i) (now (a .t)) (l .inv .1) (omega arith) (c .before .low8 .ensures) (c .if1 .taken)
-
-low6-requires : tie.Need-low6-requires Inv-loop μ-loop
-low6-requires c κs = omega arith
 
 returns-2 : tie.Need-returns-2 Inv-loop μ-loop
 returns-2 c =
@@ -38,12 +29,6 @@ returns-2 c =
     let a : _ = c .before .before .before .before .before .before .before .args in
     again-hit (a .address) (l .i) (now (a .t)) (l .inv .1) (omega arith) (c .before .before .before .low8 .ensures)
     (c .before .before .if1 .left) (c .before .low6 .ensures .0) (c .if2 .taken)
-
-add-i : tie.Need-add-i Inv-loop μ-loop
-add-i c = omega arith
-
-loop-less : tie.Need-loop-less Inv-loop μ-loop
-loop-less c = omega arith
 
 loop-again : tie.Need-loop-again Inv-loop μ-loop
 loop-again c =
@@ -64,16 +49,5 @@ returns-3 c =
 pub address-again-spec : {M : Type 1} → statement M
 address-again-spec =
     tie.close
-    (tie.spec
-    Inv-loop
-    μ-loop
-    loop-holds
-    mul-at
-    low8-requires
-    returns
-    low6-requires
-    returns-2
-    add-i
-    loop-less
-    loop-again
-    returns-3)
+    (tie.spec Inv-loop μ-loop loop-holds (λ c. omega arith) (λ c κs. omega arith) returns (λ c κs. omega arith) returns-2
+    (λ c. omega arith) (λ c. omega arith) loop-again returns-3)

@@ -16,23 +16,11 @@ abbrev μ-loop : tie.MeasureT-loop
 loop-holds : tie.Need-loop-holds Inv-loop μ-loop
 loop-holds c = (omega arith, refl)
 
-mul-at : tie.Need-mul-at Inv-loop μ-loop
-mul-at c = omega arith
-
-low8-requires : tie.Need-low8-requires Inv-loop μ-loop
-low8-requires c κs = omega arith
-
 returns : tie.Need-returns Inv-loop μ-loop
 returns c =
     let l : _ = c .before .before .before .loop in
     differ-end (l .i) (now (c .before .before .before .before .before .args .t)) (l .inv .1) (omega arith)
     (c .before .low8 .ensures) (c .if1 .taken)
-
-add-address-again : tie.Need-add-address-again Inv-loop μ-loop
-add-address-again c = omega arith
-
-low6-requires : tie.Need-low6-requires Inv-loop μ-loop
-low6-requires c κs = omega arith
 
 address-again-requires : tie.Need-address-again-requires Inv-loop μ-loop
 address-again-requires c κs = (omega arith, omega arith)
@@ -44,12 +32,6 @@ returns-2 c =
     differ-twice (l .i) t (l .inv .1) (omega arith) (c .before .before .before .before .low8 .ensures)
     (c .before .before .before .if1 .left) (c .before .before .low6 .ensures .0)
     (c .before .address-again .ensures) (c .if2 .taken)
-
-add-i : tie.Need-add-i Inv-loop μ-loop
-add-i c = omega arith
-
-loop-less : tie.Need-loop-less Inv-loop μ-loop
-loop-less c = omega arith
 
 loop-again : tie.Need-loop-again Inv-loop μ-loop
 loop-again c =
@@ -69,18 +51,5 @@ returns-3 c =
 pub addresses-differ-spec : {M : Type 1} → statement M
 addresses-differ-spec =
     tie.close
-    (tie.spec
-    Inv-loop
-    μ-loop
-    loop-holds
-    mul-at
-    low8-requires
-    returns
-    add-address-again
-    low6-requires
-    address-again-requires
-    returns-2
-    add-i
-    loop-less
-    loop-again
-    returns-3)
+    (tie.spec Inv-loop μ-loop loop-holds (λ c. omega arith) (λ c κs. omega arith) returns (λ c. omega arith)
+    (λ c κs. omega arith) address-again-requires returns-2 (λ c. omega arith) (λ c. omega arith) loop-again returns-3)

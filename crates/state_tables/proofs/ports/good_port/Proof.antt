@@ -23,9 +23,6 @@ returns-4 : tie.Need-returns-4
 unfolding goodPort within
 returns-4 c = search (le-leb, lt-leb)
 
-good-address-requires : tie.Need-good-address-requires
-good-address-requires c κs = search needs
-
 returns-5 : tie.Need-returns-5
 unfolding goodPort within
 returns-5 c =
@@ -41,5 +38,4 @@ returns-5 c =
     )
 
 pub good-port-spec : {M : Type 1} → statement M
-good-port-spec =
-    tie.close (tie.spec returns returns-2 returns-3 returns-4 good-address-requires returns-5)
+good-port-spec = tie.close (tie.spec returns returns-2 returns-3 returns-4 (λ c κs. search needs) returns-5)

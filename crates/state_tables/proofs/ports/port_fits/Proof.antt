@@ -7,9 +7,6 @@ use Rattle.state_tables.proofs.PortTest.{port-low, port-address, port-b
 use Rattle.state_tables.proofs.ports.port_fits.Statement.{statement}
 use Rattle.state_tables.proofs.ports.port_fits.Tie as tie
 
-read-port-requires : tie.Need-read-port-requires
-read-port-requires c κs = search needs
-
 returns : tie.Need-returns
 returns c =
     let a : _ = c .before .before .before .before .args in
@@ -20,12 +17,6 @@ good-port-requires c κs =
     let a : _ = c .before .before .before .before .args in
     port-address (a .last) (drop (a .at) (now (a .t))) (c .before .before .read-port .ensures)
     (λ i. rw getD-drop (c .before .before .before .shared-slice-known .given (a .at + i) .fits))
-
-add-low8 : tie.Need-add-low8
-add-low8 c = search needs
-
-low8-requires : tie.Need-low8-requires
-low8-requires c κs = search needs
 
 returns-2 : tie.Need-returns-2
 returns-2 c =
@@ -43,11 +34,4 @@ returns-3 c =
 pub port-fits-spec : {M : Type 1} → statement M
 port-fits-spec =
     tie.close
-    (tie.spec
-    read-port-requires
-    returns
-    good-port-requires
-    add-low8
-    low8-requires
-    returns-2
-    returns-3)
+    (tie.spec (λ c κs. search needs) returns good-port-requires (λ c. search needs) (λ c κs. search needs) returns-2 returns-3)

@@ -22,12 +22,6 @@ abbrev μ-loop : tie.MeasureT-loop
 loop-holds : tie.Need-loop-holds Inv-loop μ-loop
 loop-holds c = ok-start portFits (λ last l. getD l 7 0) (leb 1) 16 8 0 (now (c .before .args .t))
 
-mul-at : tie.Need-mul-at Inv-loop μ-loop
-mul-at c = omega arith
-
-low8-requires : tie.Need-low8-requires Inv-loop μ-loop
-low8-requires c κs = omega arith
-
 returns : tie.Need-returns Inv-loop μ-loop
 unfolding okPorts
 returns c =
@@ -43,21 +37,6 @@ returns-2 c =
     let l : _ = c .before .before .before .before .before .loop in
     c .rest-zero .ensures
     ∙ (rw (le-leb 1 (l .last) (omega arith)) at (ok-end (l .inv) (omega arith) (c .before .before .before .low8 .ensures) (c .before .before .if1 .taken)))
-
-port-fits-requires : tie.Need-port-fits-requires Inv-loop μ-loop
-port-fits-requires c κs = omega arith
-
-add-last : tie.Need-add-last Inv-loop μ-loop
-add-last c = omega arith
-
-shared-slice-read-last : tie.Need-shared-slice-read-last Inv-loop μ-loop
-shared-slice-read-last c = omega arith
-
-add-i : tie.Need-add-i Inv-loop μ-loop
-add-i c = omega arith
-
-loop-less : tie.Need-loop-less Inv-loop μ-loop
-loop-less c = omega arith
 
 loop-again : tie.Need-loop-again Inv-loop μ-loop
 loop-again c =
@@ -82,20 +61,6 @@ returns-4 c =
 pub ports-fit-spec : {M : Type 1} → statement M
 ports-fit-spec =
     tie.close
-    (tie.spec
-    Inv-loop
-    μ-loop
-    loop-holds
-    mul-at
-    low8-requires
-    returns
-    rest-zero-requires
-    returns-2
-    port-fits-requires
-    add-last
-    shared-slice-read-last
-    add-i
-    loop-less
-    loop-again
-    returns-3
+    (tie.spec Inv-loop μ-loop loop-holds (λ c. omega arith) (λ c κs. omega arith) returns rest-zero-requires returns-2
+    (λ c κs. omega arith) (λ c. omega arith) (λ c. omega arith) (λ c. omega arith) (λ c. omega arith) loop-again returns-3
     returns-4)

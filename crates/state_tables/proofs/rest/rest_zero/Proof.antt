@@ -1,4 +1,4 @@
-use mathlib.Core.Path.{refl, sym, _∙_}
+use mathlib.Core.Path.{sym, _∙_}
 use Prim.Native.Nat.{_-_, _≤_}
 use native.Mathlib.Omega.{arith}
 use lib.ListN.{length}
@@ -16,30 +16,6 @@ abbrev μ-loop : tie.MeasureT-loop
 
 loop-holds : tie.Need-loop-holds Inv-loop μ-loop
 loop-holds c = (omega arith, (omega arith, same-start (c .before .args .at) (now (c .before .args .t))))
-
-add-loop : tie.Need-add-loop Inv-loop μ-loop
-add-loop c = omega arith
-
-add-all-zero : tie.Need-add-all-zero Inv-loop μ-loop
-add-all-zero c = omega arith
-
-sub-all-zero : tie.Need-sub-all-zero Inv-loop μ-loop
-sub-all-zero c = omega arith
-
-part-all-zero-start : tie.Need-part-all-zero-start Inv-loop μ-loop
-part-all-zero-start c = omega arith
-
-part-all-zero-end : tie.Need-part-all-zero-end Inv-loop μ-loop
-part-all-zero-end c = omega arith
-
-all-zero-requires : tie.Need-all-zero-requires Inv-loop μ-loop
-all-zero-requires c κs = tt
-
-add-i : tie.Need-add-i Inv-loop μ-loop
-add-i c = omega arith
-
-loop-less : tie.Need-loop-less Inv-loop μ-loop
-loop-less c = omega arith
 
 loop-again : tie.Need-loop-again Inv-loop μ-loop
 loop-again c =
@@ -60,42 +36,12 @@ returns-2 c =
     let l : _ = c .before .before .loop in
     sym (none-behind (now (c .before .before .before .before .args .t)) (l .i) (omega arith)) ∙ l .inv .1 .1 (l .i) (l .inv .0) (omega arith)
 
-add-if3 : tie.Need-add-if3 Inv-loop μ-loop
-add-if3 c = omega arith
-
-sub-all-zero-2 : tie.Need-sub-all-zero-2 Inv-loop μ-loop
-sub-all-zero-2 c = omega arith
-
-sub-all-zero-3 : tie.Need-sub-all-zero-3 Inv-loop μ-loop
-sub-all-zero-3 c = omega arith
-
-part-all-zero-start-2 : tie.Need-part-all-zero-start-2 Inv-loop μ-loop
-part-all-zero-start-2 c = omega arith
-
-part-all-zero-end-2 : tie.Need-part-all-zero-end-2 Inv-loop μ-loop
-part-all-zero-end-2 c = omega arith
-
-all-zero-requires-2 : tie.Need-all-zero-requires-2 Inv-loop μ-loop
-all-zero-requires-2 c κs = tt
-
 returns-3 : tie.Need-returns-3 Inv-loop μ-loop
 returns-3 c =
     let l : _ = c .before .before .before .before .before .loop in
     let a : _ = c .before .before .before .before .before .before .before .args in
     let last : _ = length (now (a .t)) - a .run in
     rest-zero (now (a .t)) last (c .all-zero2 .ensures) ∙ l .inv .1 .1 last (omega arith) (omega arith)
-
-sub-all-zero-4 : tie.Need-sub-all-zero-4 Inv-loop μ-loop
-sub-all-zero-4 c = omega arith
-
-part-all-zero-start-3 : tie.Need-part-all-zero-start-3 Inv-loop μ-loop
-part-all-zero-start-3 c = omega arith
-
-part-all-zero-end-3 : tie.Need-part-all-zero-end-3 Inv-loop μ-loop
-part-all-zero-end-3 c = omega arith
-
-all-zero-requires-3 : tie.Need-all-zero-requires-3 Inv-loop μ-loop
-all-zero-requires-3 c κs = tt
 
 returns-4 : tie.Need-returns-4 Inv-loop μ-loop
 returns-4 c =
@@ -105,30 +51,7 @@ returns-4 c =
 pub rest-zero-spec : {M : Type 1} → statement M
 rest-zero-spec =
     tie.close
-    (tie.spec
-    Inv-loop
-    μ-loop
-    loop-holds
-    add-loop
-    add-all-zero
-    sub-all-zero
-    part-all-zero-start
-    part-all-zero-end
-    all-zero-requires
-    add-i
-    loop-less
-    loop-again
-    returns
-    returns-2
-    add-if3
-    sub-all-zero-2
-    sub-all-zero-3
-    part-all-zero-start-2
-    part-all-zero-end-2
-    all-zero-requires-2
-    returns-3
-    sub-all-zero-4
-    part-all-zero-start-3
-    part-all-zero-end-3
-    all-zero-requires-3
-    returns-4)
+    (tie.spec Inv-loop μ-loop loop-holds (λ c. omega arith) (λ c. omega arith) (λ c. omega arith) (λ c. omega arith)
+    (λ c. omega arith) (λ c κs. tt) (λ c. omega arith) (λ c. omega arith) loop-again returns returns-2 (λ c. omega arith)
+    (λ c. omega arith) (λ c. omega arith) (λ c. omega arith) (λ c. omega arith) (λ c κs. tt) returns-3 (λ c. omega arith)
+    (λ c. omega arith) (λ c. omega arith) (λ c κs. tt) returns-4)

@@ -2,45 +2,6 @@ use borrow.Author.Needs.{needs}
 use Rattle.state_valid.proofs.image.free_zero.Statement.{statement}
 use Rattle.state_valid.proofs.image.free_zero.Tie as tie
 
-head-zero-requires : tie.Need-head-zero-requires
-head-zero-requires c κs = search needs
-
-sub-all-zero : tie.Need-sub-all-zero
-sub-all-zero c = search needs
-
-part-all-zero-start : tie.Need-part-all-zero-start
-part-all-zero-start c = search needs
-
-part-all-zero-end : tie.Need-part-all-zero-end
-part-all-zero-end c = search needs
-
-all-zero-requires : tie.Need-all-zero-requires
-all-zero-requires c κs = search needs
-
-sub-all-zero-2 : tie.Need-sub-all-zero-2
-sub-all-zero-2 c = search needs
-
-part-all-zero-start-2 : tie.Need-part-all-zero-start-2
-part-all-zero-start-2 c = search needs
-
-part-all-zero-end-2 : tie.Need-part-all-zero-end-2
-part-all-zero-end-2 c = search needs
-
-all-zero-requires-2 : tie.Need-all-zero-requires-2
-all-zero-requires-2 c κs = search needs
-
-sub-all-zero-3 : tie.Need-sub-all-zero-3
-sub-all-zero-3 c = search needs
-
-part-all-zero-start-3 : tie.Need-part-all-zero-start-3
-part-all-zero-start-3 c = search needs
-
-part-all-zero-end-3 : tie.Need-part-all-zero-end-3
-part-all-zero-end-3 c = search needs
-
-all-zero-requires-3 : tie.Need-all-zero-requires-3
-all-zero-requires-3 c κs = search needs
-
 returns : tie.Need-returns
 returns c =
     rw (
@@ -78,21 +39,6 @@ returns-4 c = rw (← c .before .head-zero .ensures, c .if1 .left)
 pub free-zero-spec : {M : Type 1} → statement M
 free-zero-spec =
     tie.close
-    (tie.spec
-    head-zero-requires
-    sub-all-zero
-    part-all-zero-start
-    part-all-zero-end
-    all-zero-requires
-    sub-all-zero-2
-    part-all-zero-start-2
-    part-all-zero-end-2
-    all-zero-requires-2
-    sub-all-zero-3
-    part-all-zero-start-3
-    part-all-zero-end-3
-    all-zero-requires-3
-    returns
-    returns-2
-    returns-3
-    returns-4)
+    (tie.spec (λ c κs. search needs) (λ c. search needs) (λ c. search needs) (λ c. search needs) (λ c κs. search needs)
+    (λ c. search needs) (λ c. search needs) (λ c. search needs) (λ c κs. search needs) (λ c. search needs) (λ c. search needs)
+    (λ c. search needs) (λ c κs. search needs) returns returns-2 returns-3 returns-4)

@@ -13,45 +13,6 @@ octets c i = c .before .shared-slice-known .given i .fits
 returns : tie.Need-returns
 returns c = sym (short-law (now (c .before .before .args .b)) (c .if1 .taken))
 
-free-zero-requires : tie.Need-free-zero-requires
-free-zero-requires c κs = search needs
-
-plan-fits-requires : tie.Need-plan-fits-requires
-plan-fits-requires c κs = search needs
-
-sub-allowed-fits : tie.Need-sub-allowed-fits
-sub-allowed-fits c = search needs
-
-part-allowed-fits-start : tie.Need-part-allowed-fits-start
-part-allowed-fits-start c = search needs
-
-part-allowed-fits-end : tie.Need-part-allowed-fits-end
-part-allowed-fits-end c = search needs
-
-sub-allowed-fits-2 : tie.Need-sub-allowed-fits-2
-sub-allowed-fits-2 c = search needs
-
-part-allowed-fits-start-2 : tie.Need-part-allowed-fits-start-2
-part-allowed-fits-start-2 c = search needs
-
-part-allowed-fits-end-2 : tie.Need-part-allowed-fits-end-2
-part-allowed-fits-end-2 c = search needs
-
-allowed-fits-requires : tie.Need-allowed-fits-requires
-allowed-fits-requires c κs = search needs
-
-sub-sessions-fit : tie.Need-sub-sessions-fit
-sub-sessions-fit c = search needs
-
-part-sessions-fit-start : tie.Need-part-sessions-fit-start
-part-sessions-fit-start c = search needs
-
-part-sessions-fit-end : tie.Need-part-sessions-fit-end
-part-sessions-fit-end c = search needs
-
-sessions-fit-requires : tie.Need-sessions-fit-requires
-sessions-fit-requires c κs = search needs
-
 returns-2 : tie.Need-returns-2
 returns-2 c =
     let k : _ = c .before .before .before .before .before .before .before .before .before .before in
@@ -95,22 +56,6 @@ returns-5 c =
 pub is-image-spec : {M : Type 1} → statement M
 is-image-spec =
     tie.close
-    (tie.spec
-    returns
-    free-zero-requires
-    plan-fits-requires
-    sub-allowed-fits
-    part-allowed-fits-start
-    part-allowed-fits-end
-    sub-allowed-fits-2
-    part-allowed-fits-start-2
-    part-allowed-fits-end-2
-    allowed-fits-requires
-    sub-sessions-fit
-    part-sessions-fit-start
-    part-sessions-fit-end
-    sessions-fit-requires
-    returns-2
-    returns-3
-    returns-4
-    returns-5)
+    (tie.spec returns (λ c κs. search needs) (λ c κs. search needs) (λ c. search needs) (λ c. search needs) (λ c. search needs)
+    (λ c. search needs) (λ c. search needs) (λ c. search needs) (λ c κs. search needs) (λ c. search needs) (λ c. search needs)
+    (λ c. search needs) (λ c κs. search needs) returns-2 returns-3 returns-4 returns-5)

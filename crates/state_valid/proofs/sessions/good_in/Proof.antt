@@ -8,12 +8,6 @@ use Rattle.state_valid.proofs.SessionTest.{numbered-flow}
 use Rattle.state_valid.proofs.sessions.good_in.Statement.{statement}
 use Rattle.state_valid.proofs.sessions.good_in.Tie as tie
 
-cast-numbered-at : tie.Need-cast-numbered-at
-cast-numbered-at c = search needs
-
-numbered-at-requires : tie.Need-numbered-at-requires
-numbered-at-requires c κs = search needs
-
 returns : tie.Need-returns
 unfolding goodIn
 returns c = rw (← c .before .numbered-at .ensures, c .if1 .taken)
@@ -30,5 +24,4 @@ unfolding goodIn
 returns-2 c = rw (← c .before .before .numbered-at .ensures, ne-eqb _ _ (c .before .if1 .left)) (c .good-at .ensures)
 
 pub good-in-spec : {M : Type 1} → statement M
-good-in-spec =
-    tie.close (tie.spec cast-numbered-at numbered-at-requires returns good-at-requires returns-2)
+good-in-spec = tie.close (tie.spec (λ c. search needs) (λ c κs. search needs) returns good-at-requires returns-2)

@@ -30,25 +30,14 @@ returns-4 c = simp (ne-eqb _ _ (c .before .before .if1 .left), ne-eqb _ _ (c .if
 returns-5 : tie.Need-returns-5
 unfolding goodTime isOpen within
 returns-5 c =
-    rw (
-      ne-eqb _ _ (c .before .before .before .before .if1 .left),
-      c .before .before .if4 .left,
-      c .before .if5 .taken,
-      and-true,
-      and-false,
-      or-false,
-    )
+    let k : _ = c .before .before in
+    rw (ne-eqb _ _ (k .before .before .if1 .left), k .if4 .left, c .before .if5 .taken, and-true, and-false, or-false)
 
 returns-6 : tie.Need-returns-6
 unfolding goodTime isOpen within
 returns-6 c =
-    rw (
-      ne-eqb _ _ (c .before .before .before .before .if1 .left),
-      c .before .before .if4 .left,
-      c .before .if5 .left,
-      and-true,
-      and-false,
-    )
+    let k : _ = c .before .before in
+    rw (ne-eqb _ _ (k .before .before .if1 .left), k .if4 .left, c .before .if5 .left, and-true, and-false)
 
 pub good-time-spec : {M : Type 1} → statement M
 good-time-spec = tie.close (tie.spec returns returns-2 returns-3 returns-4 returns-5 returns-6)

@@ -6,24 +6,9 @@ use Rattle.state_valid.specs.Sessions.{sessionFits}
 use Rattle.state_valid.proofs.sessions.session_fits.Statement.{statement}
 use Rattle.state_valid.proofs.sessions.session_fits.Tie as tie
 
-low8-requires : tie.Need-low8-requires
-low8-requires c κs = search needs
-
 returns : tie.Need-returns
 unfolding sessionFits
 returns c = rw (← c .before .low8 .ensures, le-ltb _ _ (c .if1 .taken))
-
-read-session-requires : tie.Need-read-session-requires
-read-session-requires c κs = search needs
-
-good-in-requires : tie.Need-good-in-requires
-good-in-requires c κs = search needs
-
-add-low8 : tie.Need-add-low8
-add-low8 c = search needs
-
-low8-requires-2 : tie.Need-low8-requires-2
-low8-requires-2 c κs = search needs
 
 returns-2 : tie.Need-returns-2
 unfolding sessionFits
@@ -53,12 +38,5 @@ returns-3 c =
 pub session-fits-spec : {M : Type 1} → statement M
 session-fits-spec =
     tie.close
-    (tie.spec
-    low8-requires
-    returns
-    read-session-requires
-    good-in-requires
-    add-low8
-    low8-requires-2
-    returns-2
-    returns-3)
+    (tie.spec (λ c κs. search needs) returns (λ c κs. search needs) (λ c κs. search needs) (λ c. search needs)
+    (λ c κs. search needs) returns-2 returns-3)

@@ -20,12 +20,6 @@ loop-holds c =
     let a : _ = c .before .before .args in
     ok-start (sessionFits (now (a .b))) (λ last l. lowNumber 8 l) (λ last. true) 32 16 0 (now (a .t))
 
-mul-at : tie.Need-mul-at Inv-loop μ-loop
-mul-at c = omega arith
-
-low8-requires : tie.Need-low8-requires Inv-loop μ-loop
-low8-requires c κs = omega arith
-
 rest-zero-requires : tie.Need-rest-zero-requires Inv-loop μ-loop
 rest-zero-requires c κs = (omega arith, omega arith)
 
@@ -37,12 +31,6 @@ returns c =
 
 session-fits-requires : tie.Need-session-fits-requires Inv-loop μ-loop
 session-fits-requires c κs = (omega arith, omega arith)
-
-add-i : tie.Need-add-i Inv-loop μ-loop
-add-i c = omega arith
-
-loop-less : tie.Need-loop-less Inv-loop μ-loop
-loop-less c = omega arith
 
 loop-again : tie.Need-loop-again Inv-loop μ-loop
 loop-again c =
@@ -64,17 +52,5 @@ returns-3 c =
 pub sessions-fit-spec : {M : Type 1} → statement M
 sessions-fit-spec =
     tie.close
-    (tie.spec
-    Inv-loop
-    μ-loop
-    loop-holds
-    mul-at
-    low8-requires
-    rest-zero-requires
-    returns
-    session-fits-requires
-    add-i
-    loop-less
-    loop-again
-    returns-2
-    returns-3)
+    (tie.spec Inv-loop μ-loop loop-holds (λ c. omega arith) (λ c κs. omega arith) rest-zero-requires returns
+    session-fits-requires (λ c. omega arith) (λ c. omega arith) loop-again returns-2 returns-3)

@@ -16,9 +16,6 @@ returns-3 : tie.Need-returns-3
 unfolding tagFits setOf vidOf
 returns-3 c = simp (ne-eqb _ _ (c .before .if1 .left), ne-eqb _ _ (c .if3 .taken))
 
-tag-type-requires : tie.Need-tag-type-requires
-tag-type-requires c κs = search needs
-
 returns-4 : tie.Need-returns-4
 unfolding tagFits setOf vidOf
 returns-4 c =
@@ -40,5 +37,4 @@ returns-5 c =
     )
 
 pub tag-fits-spec : {M : Type 1} → statement M
-tag-fits-spec =
-    tie.close (tie.spec returns returns-2 returns-3 tag-type-requires returns-4 returns-5)
+tag-fits-spec = tie.close (tie.spec returns returns-2 (λ c. search needs) returns-3 (λ c κs. search needs) returns-4 (λ c. search needs) returns-5)

@@ -5,27 +5,12 @@ use borrow.Author.Needs.{needs}
 use Rattle.tmavolice.proofs.entries.tmavolice_allow.Statement.{statement}
 use Rattle.tmavolice.proofs.entries.tmavolice_allow.Tie as tie
 
-flow-refusal-requires : tie.Need-flow-refusal-requires
-flow-refusal-requires c κs = search needs
-
-answer-number-requires : tie.Need-answer-number-requires
-answer-number-requires c κs = search needs
-
-same-length : tie.Need-same-length
-same-length c = search needs
-
 returns : tie.Need-returns
 unfolding lent makes
 returns c = entered-refused (c .before .before .flow-refusal .ensures) refl (c .before .if1 .taken) (c .answer-number .ensures)
 
 allow-flow-requires : tie.Need-allow-flow-requires
 allow-flow-requires c κs = c .before .before .flow-refusal .ensures .known (c .before .if1 .left)
-
-answer-number-requires-2 : tie.Need-answer-number-requires-2
-answer-number-requires-2 c κs = search needs
-
-same-length-2 : tie.Need-same-length-2
-same-length-2 c = search needs
 
 returns-2 : tie.Need-returns-2
 unfolding served lent makes
@@ -38,12 +23,4 @@ returns-2 c =
 pub tmavolice-allow-spec : {M : Type 1} → statement M
 tmavolice-allow-spec =
     tie.close
-    (tie.spec
-    flow-refusal-requires
-    answer-number-requires
-    same-length
-    returns
-    allow-flow-requires
-    answer-number-requires-2
-    same-length-2
-    returns-2)
+    (tie.spec (search needs) (search needs) (search needs) returns allow-flow-requires (search needs) (search needs) returns-2)

@@ -6,15 +6,6 @@ use borrow.Author.Needs.{needs}
 use Rattle.tmavolice.proofs.entries.tmavolice_prohibit.Statement.{statement}
 use Rattle.tmavolice.proofs.entries.tmavolice_prohibit.Tie as tie
 
-flow-refusal-requires : tie.Need-flow-refusal-requires
-flow-refusal-requires c κs = search needs
-
-answer-number-requires : tie.Need-answer-number-requires
-answer-number-requires c κs = search needs
-
-same-length : tie.Need-same-length
-same-length c = search needs
-
 returns : tie.Need-returns
 unfolding lent makes
 returns c =
@@ -23,12 +14,6 @@ returns c =
 
 prohibit-flow-requires : tie.Need-prohibit-flow-requires
 prohibit-flow-requires c κs = c .before .before .flow-refusal .ensures .known (c .before .if1 .left)
-
-answer-number-requires-2 : tie.Need-answer-number-requires-2
-answer-number-requires-2 c κs = search needs
-
-same-length-2 : tie.Need-same-length-2
-same-length-2 c = search needs
 
 returns-2 : tie.Need-returns-2
 unfolding served lent makes
@@ -41,12 +26,4 @@ returns-2 c =
 pub tmavolice-prohibit-spec : {M : Type 1} → statement M
 tmavolice-prohibit-spec =
     tie.close
-    (tie.spec
-    flow-refusal-requires
-    answer-number-requires
-    same-length
-    returns
-    prohibit-flow-requires
-    answer-number-requires-2
-    same-length-2
-    returns-2)
+    (tie.spec (search needs) (search needs) (search needs) returns prohibit-flow-requires (search needs) (search needs) returns-2)

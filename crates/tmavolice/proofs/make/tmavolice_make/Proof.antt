@@ -3,17 +3,8 @@ use borrow.Author.Needs.{needs}
 use Rattle.tmavolice.proofs.make.tmavolice_make.Statement.{statement}
 use Rattle.tmavolice.proofs.make.tmavolice_make.Tie as tie
 
-answer-number-requires : tie.Need-answer-number-requires
-answer-number-requires c κs = search needs
-
 returns : tie.Need-returns
 returns c = make-refused _ _ _ (c .before .if1 .taken) (c .answer-number .ensures)
-
-read-plan-requires : tie.Need-read-plan-requires
-read-plan-requires c κs = search needs
-
-answer-number-requires-2 : tie.Need-answer-number-requires-2
-answer-number-requires-2 c κs = search needs
 
 returns-2 : tie.Need-returns-2
 returns-2 c =
@@ -25,12 +16,6 @@ make-image-requires c κs =
     let p : _ = c .before .before .before in
     (p .before .if1 .left, plan-keeps _ (p .read-plan .result) (p .read-plan .ensures) (c .before .if2 .left))
 
-answer-number-requires-3 : tie.Need-answer-number-requires-3
-answer-number-requires-3 c κs = search needs
-
-same-length : tie.Need-same-length
-same-length c = search needs
-
 returns-3 : tie.Need-returns-3
 returns-3 c =
     let m : _ = c .before .before .before in
@@ -41,13 +26,5 @@ returns-3 c =
 pub tmavolice-make-spec : {M : Type 1} → statement M
 tmavolice-make-spec =
     tie.close
-    (tie.spec
-    answer-number-requires
-    returns
-    read-plan-requires
-    answer-number-requires-2
-    returns-2
-    make-image-requires
-    answer-number-requires-3
-    same-length
+    (tie.spec (search needs) returns (search needs) (search needs) returns-2 make-image-requires (search needs) (search needs)
     returns-3)

@@ -3,9 +3,6 @@ use borrow.Author.Needs.{needs}
 use Rattle.tmavolice.proofs.refusals.flow_refusal.Statement.{statement}
 use Rattle.tmavolice.proofs.refusals.flow_refusal.Tie as tie
 
-is-image-requires : tie.Need-is-image-requires
-is-image-requires c κs = search needs
-
 notice-due-requires : tie.Need-notice-due-requires
 notice-due-requires c κs = sized _ (c .before .is-image .ensures) (c .if1 .taken)
 
@@ -37,11 +34,4 @@ returns-4 c = no-image (c .before .is-image .ensures) (c .if1 .left)
 pub flow-refusal-spec : {M : Type 1} → statement M
 flow-refusal-spec =
     tie.close
-    (tie.spec
-    is-image-requires
-    notice-due-requires
-    returns
-    numbered-at-requires
-    returns-2
-    returns-3
-    returns-4)
+    (tie.spec (search needs) notice-due-requires returns numbered-at-requires returns-2 returns-3 returns-4)

@@ -3,9 +3,6 @@ use borrow.Author.Needs.{needs}
 use Rattle.tmavolice.proofs.refusals.notice_refusal.Statement.{statement}
 use Rattle.tmavolice.proofs.refusals.notice_refusal.Tie as tie
 
-is-image-requires : tie.Need-is-image-requires
-is-image-requires c κs = search needs
-
 notice-due-requires : tie.Need-notice-due-requires
 notice-due-requires c κs = sized _ (c .before .before .is-image .ensures) (c .before .if1 .taken)
 
@@ -30,6 +27,4 @@ returns-4 : tie.Need-returns-4
 returns-4 c = no-image (c .before .is-image .ensures) (c .if1 .left)
 
 pub notice-refusal-spec : {M : Type 1} → statement M
-notice-refusal-spec =
-    tie.close
-    (tie.spec is-image-requires notice-due-requires returns returns-2 returns-3 returns-4)
+notice-refusal-spec = tie.close (tie.spec (search needs) notice-due-requires returns returns-2 returns-3 returns-4)

@@ -3,9 +3,6 @@ use borrow.Author.Needs.{needs}
 use Rattle.tmavolice.proofs.refusals.restart_refusal.Statement.{statement}
 use Rattle.tmavolice.proofs.refusals.restart_refusal.Tie as tie
 
-is-image-requires : tie.Need-is-image-requires
-is-image-requires c κs = search needs
-
 returns : tie.Need-returns
 returns c clock = restart-passes (c .before .is-image .ensures) (c .if1 .taken)
 
@@ -13,4 +10,4 @@ returns-2 : tie.Need-returns-2
 returns-2 c clock = no-image (c .before .is-image .ensures) (c .if1 .left)
 
 pub restart-refusal-spec : {M : Type 1} → statement M
-restart-refusal-spec = tie.close (tie.spec is-image-requires returns returns-2)
+restart-refusal-spec = tie.close (tie.spec (search needs) returns returns-2)

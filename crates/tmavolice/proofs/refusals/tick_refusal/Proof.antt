@@ -3,9 +3,6 @@ use borrow.Author.Needs.{needs}
 use Rattle.tmavolice.proofs.refusals.tick_refusal.Statement.{statement}
 use Rattle.tmavolice.proofs.refusals.tick_refusal.Tie as tie
 
-is-image-requires : tie.Need-is-image-requires
-is-image-requires c κs = search needs
-
 notice-due-requires : tie.Need-notice-due-requires
 notice-due-requires c κs = sized _ (c .before .is-image .ensures) (c .if1 .taken)
 
@@ -16,9 +13,6 @@ returns c =
 
 clock-of-requires : tie.Need-clock-of-requires
 clock-of-requires c κs = sized _ (c .before .before .before .is-image .ensures) (c .before .before .if1 .taken)
-
-jumped-requires : tie.Need-jumped-requires
-jumped-requires c κs = search needs
 
 returns-2 : tie.Need-returns-2
 returns-2 c =
@@ -40,12 +34,4 @@ returns-4 c = no-image (c .before .is-image .ensures) (c .if1 .left)
 pub tick-refusal-spec : {M : Type 1} → statement M
 tick-refusal-spec =
     tie.close
-    (tie.spec
-    is-image-requires
-    notice-due-requires
-    returns
-    clock-of-requires
-    jumped-requires
-    returns-2
-    returns-3
-    returns-4)
+    (tie.spec (search needs) notice-due-requires returns clock-of-requires (search needs) returns-2 returns-3 returns-4)

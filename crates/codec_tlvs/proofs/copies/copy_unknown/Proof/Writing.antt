@@ -33,7 +33,7 @@ use denote.Triple.Walked.{says}
 use Rattle.octets.specs.Octets.{splice}
 use Rattle.codec_tlvs.specs.Walk.{kept}
 use Rattle.codec_tlvs.proofs.Held.{Sliced}
-use Rattle.codec_tlvs.proofs.Asking.{Token}
+use Rattle.codec_tlvs.proofs.Questions.{Token}
 use Rattle.codec_tlvs.proofs.Again.{LentAgain, lends-at, comes-at}
 use Rattle.codec_tlvs.proofs.copies.copy_one as copy-one
 use Rattle.codec_tlvs.proofs.copies.copy_one.Symbol as copy-one-def

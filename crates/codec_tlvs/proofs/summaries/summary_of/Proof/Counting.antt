@@ -29,8 +29,8 @@ use denote.Triple.Clauses.{ensured, lasts}
 use denote.Triple.Walked.{says}
 use Rattle.codec_tlvs.specs.Walk.{badSummary, count}
 use Rattle.codec_tlvs.specs.declared.Summary.{Summary}
-use Rattle.codec_tlvs.proofs.Asking.{Token}
-use Rattle.codec_tlvs.proofs.Calling.{calls-for}
+use Rattle.codec_tlvs.proofs.Questions.{Token}
+use Rattle.codec_tlvs.proofs.CallRules.{calls-for}
 use Rattle.codec_tlvs.proofs.Summary as Y
 use Rattle.codec_tlvs.proofs.Summary.Laws as Y′
 use Rattle.codec_tlvs.proofs.summaries.counted as counted

@@ -43,10 +43,10 @@ use Rattle.codec_tlvs.proofs.Walk.{Nearer, nearer-wf, nearer, in-list}
 use Rattle.codec_tlvs.proofs.Turn.{Met, counts, onward, ends, breaks}
 use Rattle.codec_tlvs.proofs.Locals.{laid, blocks, all-freed, forgets, its, copies}
 use Rattle.codec_tlvs.proofs.Held.{mach, sliced, Sliced, placed, typed}
-use Rattle.codec_tlvs.proofs.Asking.{Token}
-use Rattle.codec_tlvs.proofs.Calling.{first-arm, second-arm, third-arm}
+use Rattle.codec_tlvs.proofs.Questions.{Token}
+use Rattle.codec_tlvs.proofs.CallRules.{first-arm, second-arm, third-arm}
 use Rattle.codec_tlvs.proofs.Promised.{Readers}
-use Rattle.codec_tlvs.proofs.Reading.{calls-next, calls-value, calls-moved}
+use Rattle.codec_tlvs.proofs.ReaderRules.{calls-next, calls-value, calls-moved}
 use Rattle.codec_tlvs.proofs.Step as S
 use Rattle.codec_tlvs.proofs.Step.Laws as S′
 use Rattle.codec_tlvs.proofs.Summary as Y
