@@ -4,14 +4,15 @@ use mathlib.Core.Bool.{true}
 use mathlib.Core.List.{_++_}
 use Rattle.octets.specs.Lists.{within, every, some, count, first, ascends, put, without, distinct}
 use Rattle.octets.specs.Octets.{number, octets, lowNumber, lowOctets, movedUp, movedDown, allZero, same}
-use Rattle.octets.specs.Text.{text, digit, hexed, hex}
+use Rattle.octets.specs.Text.{text, hex}
 use Rattle.codec.specs.FrameSet.{destination, source, group, typeBehind, vidOf, setOf, tagged, byTag, tagFits, setsOf, soam}
 use Rattle.codec.specs.FrameSet.{pduOf}
 use Rattle.codec_replies.specs.Reply.{activeFlags, flagsBy, flags, header, timerTlv, carriesTimer, timerPart, replyPdu, replyOf}
 use Rattle.codec_replies.specs.Reply.{replyFrame, tagOf, looped}
 use Rattle.codec.specs.Request.{octet, levelOf, versionOf, opcodeOf, offsetOf, typeOf, portMacOf, tlvsOf, isRequest, class2}
 use Rattle.codec.specs.Request.{addressed, wrongMac, wrongOffset, untimed, malformed, byType, requestOf, copiesOf, copied, readOf}
-use Rattle.codec_tlvs.specs.Tlv.{ended, cut, followed, walk, parse, subtype, isTimer, badTlv, timers, badList, tlvOctets, unknown}
+use Rattle.codec_tlvs.specs.Tlv.{ended, cut, followed, walk, parse, subtype, isTimer, badTlv, timers, badList}
+use Rattle.codec_tlvs.specs.Tlv.{isUnknown, unknowns, tlvOctets, tlvList}
 use Rattle.machine.specs.Machine.{activity, conditionOf, isOpen, key, keyOf, lasting, owed, goodSeconds, answered, admitted}
 use Rattle.machine.specs.Machine.{sameMp, refreshed, restarted, closed, decided, after, passes, turned, fateOf, dataEvent}
 use Rattle.machine.specs.Machine.{secondsLeft, statusOf}
@@ -44,11 +45,11 @@ use Rattle.calls.proofs.Mps.{imageOf, entries}
 
 -- every definition, to be unfolded at once
 everything : Unit {0}
-unfolding within every some count first ascends put without distinct number octets lowNumber lowOctets movedUp movedDown allZero same text digit
-    hexed hex destination source group typeBehind vidOf setOf tagged byTag tagFits setsOf soam pduOf activeFlags flagsBy flags
+unfolding within every some count first ascends put without distinct number octets lowNumber lowOctets movedUp movedDown allZero same text hex
+    destination source group typeBehind vidOf setOf tagged byTag tagFits setsOf soam pduOf activeFlags flagsBy flags
     header timerTlv carriesTimer timerPart replyPdu copied replyOf replyFrame tagOf looped octet levelOf versionOf opcodeOf
     offsetOf typeOf portMacOf tlvsOf isRequest class2 addressed wrongMac wrongOffset untimed malformed byType requestOf copiesOf
-    readOf ended cut followed walk parse subtype isTimer badTlv timers badList tlvOctets unknown activity conditionOf isOpen key
+    readOf ended cut followed walk parse subtype isTimer badTlv timers badList isUnknown unknowns tlvOctets tlvList activity conditionOf isOpen key
     keyOf lasting owed goodSeconds answered admitted sameMp refreshed restarted closed decided after passes turned fateOf
     dataEvent closedBy managedBy allowedAfter secondsLeft statusOf conditionNumber eventNumber conditionAt eventAt actionOf
     actionAt elapsed jumped ticked joined parted field isDigit isNumber isAddress spelled numberIn addressIn listed portKinds

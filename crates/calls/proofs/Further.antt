@@ -2,7 +2,6 @@
 -- docs/DECISIONS.md.
 use mathlib.Core.List.{List, [], _∷_, _++_}
 use Prim.Native.Nat.{ℕ, zero, suc}
-use Prim.Native.String.{String}
 use lib.ListN.{replicate}
 use Rattle.octets.specs.Text.{text, hex}
 use Rattle.codec.specs.FrameSet.{external, cen}
@@ -68,7 +67,7 @@ refusals =
     ∷ case (due ++ (make benchPlan 0 ∷ [])) (notice room) (Refused 7) room
     ∷ case (opened ++ (make benchPlan 0 ∷ [])) activate60 Dropped room
     ∷ case (opened ++ (make benchPlan 0 ∷ allow 1 ∷ [])) stateRequest (Replied 39)
-    (written (toTester "80 38 00 08 03 00 02 00 00 00 00 01 25 00 05 01 00 00 00 00 00"))
+    (written (toTester (hex "80 38 00 08 03 00 02 00 00 00 00 01 25 00 05 01 00 00 00 00 00")))
     -- a fault leaves the old state
     ∷ case due (make (text "port\t9\n") 0) (Faulty 1 1) []
     ∷ case (due ++ (make (text "port\t9\n") 0 ∷ [])) (tick 60000) (Refused 4) []
@@ -87,61 +86,61 @@ sessions zero = []
 sessions (suc n) = activateFrom n ∷ sessions n
 
 -- what the tester sends with tag C 20: behind the tag, from a side
-unfoldable pub tester : ℕ → String → Call
-tester side rest = frame 1 side (hex "02 00 00 00 00 01 02 00 00 00 00 AA 81 00 00 14" ++ hex rest) room
+unfoldable pub tester : ℕ → List ℕ → Call
+tester side rest = frame 1 side (hex "02 00 00 00 00 01 02 00 00 00 00 AA 81 00 00 14" ++ rest) room
 
 unfoldable pub requests : List Case
 requests =
     -- the 17th session: code 2; bad seconds come first; a refresh is served in a full table; a closed place is used again
     case (start ++ sessions 16) activate60 (Replied 39)
-    (written (toTester "80 38 00 08 01 02 02 00 00 00 00 01 25 00 05 01 00 00 00 00 00"))
-    ∷ case (start ++ sessions 16) (asks "80 39 00 08 01 00 02 00 00 00 00 01 25 00 05 01 00 00 00 00 00") (Replied 39)
-    (written (toTester "80 38 00 08 01 06 02 00 00 00 00 01 25 00 05 01 00 00 00 00 00"))
+    (written (toTester (hex "80 38 00 08 01 02 02 00 00 00 00 01 25 00 05 01 00 00 00 00 00")))
+    ∷ case (start ++ sessions 16) (asks (hex "80 39 00 08 01 00 02 00 00 00 00 01 25 00 05 01 00 00 00 00 00")) (Replied 39)
+    (written (toTester (hex "80 38 00 08 01 06 02 00 00 00 00 01 25 00 05 01 00 00 00 00 00")))
     ∷ case (start ++ sessions 15 ++ (activate60 ∷ [])) activate60 (Replied 39)
-    (written (toTester "80 38 01 08 01 04 02 00 00 00 00 01 25 00 05 01 00 00 00 3C 00"))
+    (written (toTester (hex "80 38 01 08 01 04 02 00 00 00 00 01 25 00 05 01 00 00 00 3C 00")))
     ∷ case (start ++ sessions 16 ++ (tick 60000 ∷ notice room ∷ restart 0 ∷ [])) activate60 (Replied 39)
-    (written (toTester "80 38 01 08 01 00 02 00 00 00 00 01 25 00 05 01 00 00 00 3C 00"))
+    (written (toTester (hex "80 38 01 08 01 00 02 00 00 00 00 01 25 00 05 01 00 00 00 3C 00")))
     -- Deactivate: close, 0; already inactive, 5; the timer there is ignored and not copied
-    ∷ case opened (asks "80 39 00 08 02 00 02 00 00 00 00 01 25 00 05 01 00 00 00 3C 00") (Replied 31)
-    (written (toTester "80 38 00 08 02 00 02 00 00 00 00 01 00"))
-    ∷ case start (asks "80 39 00 08 02 00 02 00 00 00 00 01 00") (Replied 31)
-    (written (toTester "80 38 00 08 02 05 02 00 00 00 00 01 00"))
+    ∷ case opened (asks (hex "80 39 00 08 02 00 02 00 00 00 00 01 25 00 05 01 00 00 00 3C 00")) (Replied 31)
+    (written (toTester (hex "80 38 00 08 02 00 02 00 00 00 00 01 00")))
+    ∷ case start (asks (hex "80 39 00 08 02 00 02 00 00 00 00 01 00")) (Replied 31)
+    (written (toTester (hex "80 38 00 08 02 05 02 00 00 00 00 01 00")))
     -- State of an inactive machine
     ∷ case start stateRequest (Replied 39)
-    (written (toTester "80 38 00 08 03 00 02 00 00 00 00 01 25 00 05 01 00 00 00 00 00"))
+    (written (toTester (hex "80 38 00 08 03 00 02 00 00 00 00 01 25 00 05 01 00 00 00 00 00")))
     -- a malformed request reports its machine's status, with no timer
-    ∷ case opened (asks "80 39 00 08 01 00 02 00 00 00 00 01 25 00 05 01 00 00 00 3C") (Replied 31)
-    (written (toTester "80 38 01 08 01 01 02 00 00 00 00 01 00"))
+    ∷ case opened (asks (hex "80 39 00 08 01 00 02 00 00 00 00 01 25 00 05 01 00 00 00 3C")) (Replied 31)
+    (written (toTester (hex "80 38 01 08 01 01 02 00 00 00 00 01 00")))
     -- and copies nothing, whatever stands before the fault
-    ∷ case start (asks "80 39 00 08 03 00 02 00 00 00 00 01 09 00 01 FF") (Replied 31)
-    (written (toTester "80 38 00 08 03 01 02 00 00 00 00 01 00"))
+    ∷ case start (asks (hex "80 39 00 08 03 00 02 00 00 00 00 01 09 00 01 FF")) (Replied 31)
+    (written (toTester (hex "80 38 00 08 03 01 02 00 00 00 00 01 00")))
     -- a refused refresh: the old session's seconds, and nothing changes
-    ∷ case (opened ++ (tick 30000 ∷ [])) (asks "80 39 00 08 01 00 02 00 00 00 00 01 25 00 05 01 00 00 00 00 00") (Replied 39)
-    (written (toTester "80 38 01 08 01 06 02 00 00 00 00 01 25 00 05 01 00 00 00 1E 00"))
+    ∷ case (opened ++ (tick 30000 ∷ [])) (asks (hex "80 39 00 08 01 00 02 00 00 00 00 01 25 00 05 01 00 00 00 00 00")) (Replied 39)
+    (written (toTester (hex "80 38 01 08 01 06 02 00 00 00 00 01 25 00 05 01 00 00 00 1E 00")))
     -- an Activate without a timer is malformed in a full table too
-    ∷ case (start ++ sessions 16) (asks "80 39 00 08 01 00 02 00 00 00 00 01 00") (Replied 31)
-    (written (toTester "80 38 00 08 01 01 02 00 00 00 00 01 00"))
+    ∷ case (start ++ sessions 16) (asks (hex "80 39 00 08 01 00 02 00 00 00 00 01 00")) (Replied 31)
+    (written (toTester (hex "80 38 00 08 01 01 02 00 00 00 00 01 00")))
     -- padding behind the End is nothing
-    ∷ case start (asks "80 39 00 08 01 00 02 00 00 00 00 01 25 00 05 01 00 00 00 3C 00 00 00") (Replied 39)
-    (written (toTester "80 38 01 08 01 00 02 00 00 00 00 01 25 00 05 01 00 00 00 3C 00"))
+    ∷ case start (asks (hex "80 39 00 08 01 00 02 00 00 00 00 01 25 00 05 01 00 00 00 3C 00 00 00")) (Replied 39)
+    (written (toTester (hex "80 38 01 08 01 00 02 00 00 00 00 01 25 00 05 01 00 00 00 3C 00")))
     -- a State request's timer is ignored: not copied, not counted, no restart
-    ∷ case opened (asks "80 39 00 08 03 00 02 00 00 00 00 01 25 00 05 01 00 00 00 05 00") (Replied 39)
-    (written (toTester "80 38 01 08 03 00 02 00 00 00 00 01 25 00 05 01 00 00 00 3C 00"))
+    ∷ case opened (asks (hex "80 39 00 08 03 00 02 00 00 00 00 01 25 00 05 01 00 00 00 05 00")) (Replied 39)
+    (written (toTester (hex "80 38 01 08 03 00 02 00 00 00 00 01 25 00 05 01 00 00 00 3C 00")))
     -- a reserved type: code 10, status bits 0, unknown TLVs copied, no timer
-    ∷ case opened (asks "80 39 00 08 09 00 02 00 00 00 00 01 1F 00 02 AB CD 00") (Replied 36)
-    (written (toTester "80 38 04 08 09 0A 02 00 00 00 00 01 1F 00 02 AB CD 00"))
+    ∷ case opened (asks (hex "80 39 00 08 09 00 02 00 00 00 00 01 1F 00 02 AB CD 00")) (Replied 36)
+    (written (toTester (hex "80 38 04 08 09 0A 02 00 00 00 00 01 1F 00 02 AB CD 00")))
     -- a unicast request under 12 octets is dropped; with one octet it has no opcode and is data
-    ∷ case start (asks "80 39 00 08 01 00 02 00 00 00 00") Dropped room
-    ∷ case start (asks "80") Forwarded room
+    ∷ case start (asks (hex "80 39 00 08 01 00 02 00 00 00 00")) Dropped room
+    ∷ case start (asks (hex "80")) Forwarded room
     -- prohibited: no reply
     ∷ case (make benchPlan 0 ∷ []) activate60 Dropped room
-    ∷ case (make benchPlan 0 ∷ []) (asks "80 39") Dropped room
+    ∷ case (make benchPlan 0 ∷ []) (asks (hex "80 39")) Dropped room
     -- a group source has no set, even with a request
     ∷ case start
     (frame 1 cen (hex "02 00 00 00 00 01 03 00 00 00 00 AA 81 00 00 14 89 02 80 39 00 08 03 00 02 00 00 00 00 01 00") room)
     Forwarded room
     -- from the side that the MP does not face it is data
-    ∷ case start (tester external "89 02 80 39 00 08 03 00 02 00 00 00 00 01 00") Forwarded room
+    ∷ case start (tester external (hex "89 02 80 39 00 08 03 00 02 00 00 00 00 01 00")) Forwarded room
     -- a reply of 2,008 octets: a State request of 2,000 that is full of one unknown TLV
     ∷ case start
     (frame 1 cen
@@ -149,16 +148,16 @@ requests =
     ++ replicate 1966 0x55 ++ (0 ∷ []))
     room)
     (Replied 2008)
-    (written (toTester "80 38 04 08 03 00 02 00 00 00 00 01 25 00 05 01 00 00 00 00 09 07 AE" ++ replicate 1966 0x55 ++ (0 ∷ [])))
+    (written (toTester (hex "80 38 04 08 03 00 02 00 00 00 00 01 25 00 05 01 00 00 00 00 09 07 AE") ++ replicate 1966 0x55 ++ (0 ∷ [])))
     ∷ []
 
 unfoldable pub traffic : List Case
 traffic =
     -- active: looped from the activating side, dropped from the other; inactive or prohibited: forwarded
-    case opened (tester cen "08 00 45") (Looped 19) (written (hex "02 00 00 00 00 AA 02 00 00 00 00 01 81 00 00 14 08 00 45"))
-    ∷ case opened (tester external "08 00 45") Dropped room
-    ∷ case start (tester cen "08 00 45") Forwarded room
-    ∷ case (make benchPlan 0 ∷ []) (tester cen "08 00 45") Forwarded room
+    case opened (tester cen (hex "08 00 45")) (Looped 19) (written (hex "02 00 00 00 00 AA 02 00 00 00 00 01 81 00 00 14 08 00 45"))
+    ∷ case opened (tester external (hex "08 00 45")) Dropped room
+    ∷ case start (tester cen (hex "08 00 45")) Forwarded room
+    ∷ case (make benchPlan 0 ∷ []) (tester cen (hex "08 00 45")) Forwarded room
     -- a group destination gets the port address as its source
     ∷ case opened (frame 1 cen (hex "FF FF FF FF FF FF 02 00 00 00 00 AA 81 00 00 14 08 00") room) (Looped 18)
     (written (hex "02 00 00 00 00 AA 02 00 00 00 00 01 81 00 00 14 08 00"))
@@ -166,17 +165,17 @@ traffic =
     ∷ case (opened ++ (allow 2 ∷ [])) otherVlan Forwarded room
     ∷ case opened (frame 1 cen (hex "02 00 00 00 00 01 02 00 00 00 00 AB 81 00 00 14 08 00") room) Forwarded room
     -- SOAM at the level or below goes through from either side, an empty PDU counts as level 0; above the level it is turned round
-    ∷ case opened (tester cen "89 02 80 01 00 00") Forwarded room
-    ∷ case opened (tester external "89 02 9F") Forwarded room
-    ∷ case opened (tester cen "89 02") Forwarded room
-    ∷ case opened (tester cen "89 02 A0 01") (Looped 20) (written (hex "02 00 00 00 00 AA 02 00 00 00 00 01 81 00 00 14 89 02 A0 01"))
+    ∷ case opened (tester cen (hex "89 02 80 01 00 00")) Forwarded room
+    ∷ case opened (tester external (hex "89 02 9F")) Forwarded room
+    ∷ case opened (tester cen (hex "89 02")) Forwarded room
+    ∷ case opened (tester cen (hex "89 02 A0 01")) (Looped 20) (written (hex "02 00 00 00 00 AA 02 00 00 00 00 01 81 00 00 14 89 02 A0 01"))
     -- the slip: a subscriber's OAM under a second tag is data, looped, and no request
-    ∷ case opened (tester cen "81 00 00 05 89 02 80 39 00 08 03 00 02 00 00 00 00 01 00") (Looped 35)
+    ∷ case opened (tester cen (hex "81 00 00 05 89 02 80 39 00 08 03 00 02 00 00 00 00 01 00")) (Looped 35)
     (written (hex "02 00 00 00 00 AA 02 00 00 00 00 01 81 00 00 14 81 00 00 05 89 02 80 39 00 08 03 00 02 00 00 00 00 01 00"))
-    ∷ case start (tester cen "81 00 00 05 89 02 80 39 00 08 03 00 02 00 00 00 00 01 00") Forwarded room
+    ∷ case start (tester cen (hex "81 00 00 05 89 02 80 39 00 08 03 00 02 00 00 00 00 01 00")) Forwarded room
     -- an open session survives a second Allow, and not a restart; prohibitions are kept
-    ∷ case (opened ++ (allow 1 ∷ [])) (tester cen "08 00") (Looped 18) (written (hex "02 00 00 00 00 AA 02 00 00 00 00 01 81 00 00 14 08 00"))
-    ∷ case (opened ++ (restart 5 ∷ [])) (tester cen "08 00") Forwarded room
+    ∷ case (opened ++ (allow 1 ∷ [])) (tester cen (hex "08 00")) (Looped 18) (written (hex "02 00 00 00 00 AA 02 00 00 00 00 01 81 00 00 14 08 00"))
+    ∷ case (opened ++ (restart 5 ∷ [])) (tester cen (hex "08 00")) Forwarded room
     ∷ case (opened ++ (restart 5 ∷ [])) stateRequest (Replied 39)
-    (written (toTester "80 38 00 08 03 00 02 00 00 00 00 01 25 00 05 01 00 00 00 00 00"))
+    (written (toTester (hex "80 38 00 08 03 00 02 00 00 00 00 01 25 00 05 01 00 00 00 00 00")))
     ∷ []

@@ -14,3 +14,6 @@ pub mod DecideValid
 pub mod RequestValid
 pub mod FrameValid
 pub mod CallValid
+pub mod FrameEach
+pub mod CodesSent
+pub mod LineOrder

@@ -2,7 +2,6 @@
 use mathlib.Core.List.{List, [], _∷_, _++_}
 use mathlib.Core.Bool.{Bool, _&&_}
 use Prim.Native.Nat.{ℕ, _+_, _*_, _^_}
-use Prim.Native.String.{String}
 use lib.ListN.{replicate, set}
 use lib.Dec.{eqb}
 use Rattle.octets.specs.Octets.{same}
@@ -25,7 +24,7 @@ mps = make mpPlan 0 ∷ allow 1 ∷ allow 2 ∷ allow 4 ∷ []
 
 -- Activate at level 5, a refresh from another level than B1's
 unfoldable pub otherLevel : Call
-otherLevel = asks "A0 39 00 08 01 00 02 00 00 00 00 01 25 00 05 01 00 00 00 3C 00"
+otherLevel = asks (hex "A0 39 00 08 01 00 02 00 00 00 00 01 25 00 05 01 00 00 00 3C 00")
 
 -- Activate at the MIP, from a side
 unfoldable pub atMip : ℕ → Call
@@ -42,9 +41,9 @@ atEnni =
     room
 
 -- a State request to a group of MPs: the last octet of its address, a side, and the PDU
-unfoldable pub toGroup : String → ℕ → String → Call
+unfoldable pub toGroup : ℕ → ℕ → List ℕ → Call
 toGroup last side pdu =
-    frame 1 side (hex "01 80 C2 00 00" ++ hex last ++ hex "02 00 00 00 00 AA 81 00 00 14 89 02" ++ hex pdu) room
+    frame 1 side (hex "01 80 C2 00 00" ++ (last ∷ hex "02 00 00 00 00 AA 81 00 00 14 89 02") ++ pdu) room
 
 -- Activate for 60 seconds with priority bits in the tag, from 02-00-00-00-00-n
 unfoldable pub withPriority : ℕ → Call
@@ -58,27 +57,27 @@ unfoldable pub levels : List Case
 levels =
     -- another MP: Activate 7 with the session's seconds, its own not looked at; Deactivate 7 and no timer; State 0
     case (mps ++ (activate60 ∷ tick 30000 ∷ [])) otherLevel (Replied 39)
-    (written (toTester "A0 38 01 08 01 07 02 00 00 00 00 01 25 00 05 01 00 00 00 1E 00"))
-    ∷ case (mps ++ (activate60 ∷ [])) (asks "A0 39 00 08 01 00 02 00 00 00 00 01 25 00 05 01 00 00 00 00 00") (Replied 39)
-    (written (toTester "A0 38 01 08 01 07 02 00 00 00 00 01 25 00 05 01 00 00 00 3C 00"))
-    ∷ case (mps ++ (activate60 ∷ [])) (asks "A0 39 00 08 02 00 02 00 00 00 00 01 00") (Replied 31)
-    (written (toTester "A0 38 01 08 02 07 02 00 00 00 00 01 00"))
-    ∷ case (mps ++ (activate60 ∷ [])) (asks "A0 39 00 08 03 00 02 00 00 00 00 01 00") (Replied 39)
-    (written (toTester "A0 38 01 08 03 00 02 00 00 00 00 01 25 00 05 01 00 00 00 3C 00"))
+    (written (toTester (hex "A0 38 01 08 01 07 02 00 00 00 00 01 25 00 05 01 00 00 00 1E 00")))
+    ∷ case (mps ++ (activate60 ∷ [])) (asks (hex "A0 39 00 08 01 00 02 00 00 00 00 01 25 00 05 01 00 00 00 00 00")) (Replied 39)
+    (written (toTester (hex "A0 38 01 08 01 07 02 00 00 00 00 01 25 00 05 01 00 00 00 3C 00")))
+    ∷ case (mps ++ (activate60 ∷ [])) (asks (hex "A0 39 00 08 02 00 02 00 00 00 00 01 00")) (Replied 31)
+    (written (toTester (hex "A0 38 01 08 02 07 02 00 00 00 00 01 00")))
+    ∷ case (mps ++ (activate60 ∷ [])) (asks (hex "A0 39 00 08 03 00 02 00 00 00 00 01 00")) (Replied 39)
+    (written (toTester (hex "A0 38 01 08 03 00 02 00 00 00 00 01 25 00 05 01 00 00 00 3C 00")))
     -- an Activate without a timer is malformed at another MP too
-    ∷ case (mps ++ (activate60 ∷ [])) (asks "A0 39 00 08 01 00 02 00 00 00 00 01 00") (Replied 31)
-    (written (toTester "A0 38 01 08 01 01 02 00 00 00 00 01 00"))
+    ∷ case (mps ++ (activate60 ∷ [])) (asks (hex "A0 39 00 08 01 00 02 00 00 00 00 01 00")) (Replied 31)
+    (written (toTester (hex "A0 38 01 08 01 01 02 00 00 00 00 01 00")))
     -- the slip: a refresh from another level does not restart the timer
     ∷ case (mps ++ (activate60 ∷ tick 30000 ∷ otherLevel ∷ tick 60000 ∷ [])) (notice room) (Noticed 1 1 31)
-    (written (toTester "80 38 00 08 02 08 02 00 00 00 00 01 00"))
+    (written (toTester (hex "80 38 00 08 02 08 02 00 00 00 00 01 00")))
     -- one from its own level does
     ∷ case (mps ++ (activate60 ∷ tick 30000 ∷ activate60 ∷ tick 60000 ∷ [])) activate60 (Replied 39)
-    (written (toTester "80 38 01 08 01 04 02 00 00 00 00 01 25 00 05 01 00 00 00 3C 00"))
+    (written (toTester (hex "80 38 01 08 01 04 02 00 00 00 00 01 25 00 05 01 00 00 00 3C 00")))
     -- at a MIP the other side is another MP; bit 2 is the session's side
     ∷ case (mps ++ (atMip cen ∷ [])) (atMip external) (Replied 39)
-    (written (toTester "C0 38 01 08 01 07 02 00 00 00 00 01 25 00 05 01 00 00 00 3C 00"))
+    (written (toTester (hex "C0 38 01 08 01 07 02 00 00 00 00 01 25 00 05 01 00 00 00 3C 00")))
     ∷ case mps (atMip external) (Replied 39)
-    (written (toTester "C0 38 03 08 01 00 02 00 00 00 00 01 25 00 05 01 00 00 00 3C 00"))
+    (written (toTester (hex "C0 38 03 08 01 00 02 00 00 00 00 01 25 00 05 01 00 00 00 3C 00")))
     -- a down MP faces the External Network
     ∷ case mps
     (frame 1 external
@@ -98,26 +97,26 @@ levels =
 unfoldable pub groups : List Case
 groups =
     -- a multicast State request: a MEP replies, a MIP replies and forwards, from either side, malformed or not, whatever its MAC
-    case mps (toGroup "3C" cen "80 39 00 08 03 00 00 00 00 00 00 00 00") (Replied 39)
-    (written (toTester "80 38 00 08 03 00 02 00 00 00 00 01 25 00 05 01 00 00 00 00 00"))
-    ∷ case mps (toGroup "3E" cen "C0 39 00 08 03 00 00 00 00 00 00 00 00") (RepliedForwarded 39)
-    (written (toTester "C0 38 00 08 03 00 02 00 00 00 00 01 25 00 05 01 00 00 00 00 00"))
-    ∷ case mps (toGroup "3E" external "C0 39 00 08 03 00 12 34 56 78 9A BC 00") (RepliedForwarded 39)
-    (written (toTester "C0 38 00 08 03 00 02 00 00 00 00 01 25 00 05 01 00 00 00 00 00"))
-    ∷ case mps (toGroup "3E" cen "C0 39 00 08 03 00 00 00 00 00 00 00") (RepliedForwarded 31)
-    (written (toTester "C0 38 00 08 03 01 02 00 00 00 00 01 00"))
+    case mps (toGroup 0x3C cen (hex "80 39 00 08 03 00 00 00 00 00 00 00 00")) (Replied 39)
+    (written (toTester (hex "80 38 00 08 03 00 02 00 00 00 00 01 25 00 05 01 00 00 00 00 00")))
+    ∷ case mps (toGroup 0x3E cen (hex "C0 39 00 08 03 00 00 00 00 00 00 00 00")) (RepliedForwarded 39)
+    (written (toTester (hex "C0 38 00 08 03 00 02 00 00 00 00 01 25 00 05 01 00 00 00 00 00")))
+    ∷ case mps (toGroup 0x3E external (hex "C0 39 00 08 03 00 12 34 56 78 9A BC 00")) (RepliedForwarded 39)
+    (written (toTester (hex "C0 38 00 08 03 00 02 00 00 00 00 01 25 00 05 01 00 00 00 00 00")))
+    ∷ case mps (toGroup 0x3E cen (hex "C0 39 00 08 03 00 00 00 00 00 00 00")) (RepliedForwarded 31)
+    (written (toTester (hex "C0 38 00 08 03 01 02 00 00 00 00 01 00")))
     -- so too where it would reach a session of a lower level
-    ∷ case (mps ++ (activate60 ∷ [])) (toGroup "3E" cen "C0 39 00 08 03 00 00 00 00 00 00 00 00") (RepliedForwarded 39)
-    (written (toTester "C0 38 01 08 03 00 02 00 00 00 00 01 25 00 05 01 00 00 00 3C 00"))
+    ∷ case (mps ++ (activate60 ∷ [])) (toGroup 0x3E cen (hex "C0 39 00 08 03 00 00 00 00 00 00 00 00")) (RepliedForwarded 39)
+    (written (toTester (hex "C0 38 01 08 03 00 02 00 00 00 00 01 25 00 05 01 00 00 00 3C 00")))
     -- prohibited: a MIP forwards it, malformed or not, and drops a unicast one; a MEP drops it
-    ∷ case (make mpPlan 0 ∷ []) (toGroup "3E" cen "C0 39 00 08 03 00 00 00 00 00 00 00") Forwarded room
+    ∷ case (make mpPlan 0 ∷ []) (toGroup 0x3E cen (hex "C0 39 00 08 03 00 00 00 00 00 00 00")) Forwarded room
     ∷ case (make mpPlan 0 ∷ []) (atMip cen) Dropped room
-    ∷ case (make mpPlan 0 ∷ []) (toGroup "3E" cen "C0 39 00 08 03 00 00 00 00 00 00 00 00") Forwarded room
-    ∷ case (make mpPlan 0 ∷ []) (toGroup "3C" cen "80 39 00 08 03 00 00 00 00 00 00 00 00") Dropped room
+    ∷ case (make mpPlan 0 ∷ []) (toGroup 0x3E cen (hex "C0 39 00 08 03 00 00 00 00 00 00 00 00")) Forwarded room
+    ∷ case (make mpPlan 0 ∷ []) (toGroup 0x3C cen (hex "80 39 00 08 03 00 00 00 00 00 00 00 00")) Dropped room
     -- under 12 octets, of another type, or to another level's group it is data
-    ∷ case mps (toGroup "3C" cen "80 39 00 08 03 00 00 00 00 00 00") Forwarded room
-    ∷ case mps (toGroup "3C" cen "80 39 00 08 02 00 00 00 00 00 00 00 00") Forwarded room
-    ∷ case (mps ++ (activate60 ∷ [])) (toGroup "3D" cen "C0 39 00") (Looped 21) (written (toTester "C0 39 00"))
+    ∷ case mps (toGroup 0x3C cen (hex "80 39 00 08 03 00 00 00 00 00 00")) Forwarded room
+    ∷ case mps (toGroup 0x3C cen (hex "80 39 00 08 02 00 00 00 00 00 00 00 00")) Forwarded room
+    ∷ case (mps ++ (activate60 ∷ [])) (toGroup 0x3D cen (hex "C0 39 00")) (Looped 21) (written (toTester (hex "C0 39 00")))
     -- prohibit makes code 9 notices due, in ascending source, each with the tag of its first Activate
     ∷ case (mps ++ (withPriority 0xAB ∷ withPriority 0xAA ∷ activate60 ∷ prohibit 1 ∷ [])) (notice room) (Noticed 1 1 31)
     (written (hex "02 00 00 00 00 AA 02 00 00 00 00 01 81 00 60 14 89 02 80 38 00 08 02 09 02 00 00 00 00 01 00"))
@@ -125,17 +124,17 @@ groups =
     (written (hex "02 00 00 00 00 AB 02 00 00 00 00 01 81 00 60 14 89 02 80 38 00 08 02 09 02 00 00 00 00 01 00"))
     ∷ case (mps ++ (activate60 ∷ prohibit 1 ∷ notice room ∷ [])) activate60 Dropped room
     -- a session opened anew has the tag of the Activate that opened it
-    ∷ case (mps ++ (withPriority 0xAA ∷ asks "80 39 00 08 02 00 02 00 00 00 00 01 00" ∷ activate60 ∷ prohibit 1 ∷ [])) (notice room)
+    ∷ case (mps ++ (withPriority 0xAA ∷ asks (hex "80 39 00 08 02 00 02 00 00 00 00 01 00") ∷ activate60 ∷ prohibit 1 ∷ [])) (notice room)
     (Noticed 1 1 31)
-    (written (toTester "80 38 00 08 02 09 02 00 00 00 00 01 00"))
+    (written (toTester (hex "80 38 00 08 02 09 02 00 00 00 00 01 00")))
     -- the port and the side are the session's
     ∷ case (mps ++ (atMip external ∷ tick 60000 ∷ [])) (notice room) (Noticed 1 0 31)
-    (written (toTester "C0 38 00 08 02 08 02 00 00 00 00 01 00"))
+    (written (toTester (hex "C0 38 00 08 02 08 02 00 00 00 00 01 00")))
     ∷ case (mps ++ (atEnni ∷ tick 60000 ∷ [])) (notice room) (Noticed 2 0 31)
     (written (hex "02 00 00 00 00 AA 02 00 00 00 00 02 88 A8 00 14 89 02 60 38 00 08 02 08 02 00 00 00 00 02 00"))
     -- prohibit touches its own flow alone
     ∷ case (mps ++ (activate60 ∷ prohibit 2 ∷ [])) activate60 (Replied 39)
-    (written (toTester "80 38 01 08 01 04 02 00 00 00 00 01 25 00 05 01 00 00 00 3C 00"))
+    (written (toTester (hex "80 38 01 08 01 04 02 00 00 00 00 01 25 00 05 01 00 00 00 3C 00")))
     ∷ []
 
 -- a call on a lent image: the host's number, and the image that it leaves

@@ -11,7 +11,7 @@ use Rattle.octets.proofs.Cases.{by-eq}
 use Rattle.codec.specs.declared.Status.{Status}
 use Rattle.codec.specs.declared.Addressed.{Addressed}
 use Rattle.codec.specs.declared.Read.{Read}
-use Rattle.codec.specs.FrameSet.{pduOf}
+use Rattle.codec.specs.FrameSet.{soam, pduOf}
 use Rattle.codec.specs.Request.{malformed, requestOf, copiesOf, readOf, copied}
 use Rattle.codec.proofs.Short.{copies-short}
 use Rattle.codec_replies.specs.declared.ReplyFields.{ReplyFields}
@@ -69,14 +69,15 @@ replyTo a frame code status copies =
     replyFrame (a .heading .source) (a .replier) (tagOf (a .taglen) frame)
     (replyPdu (a .heading .level) (a .heading .kind) code (a .port .address) status copies)
 
-pub replied-served : (b : List ℕ) (a : Arrival) (frame : List ℕ) → Known b a frame → (whom : Addressed) (s : State) (on : Bool) (code : ℕ)
+pub replied-served : (b : List ℕ) (a : Arrival) (frame : List ℕ) → Known b a frame → soam (a .taglen) frame ≡ true
+    → (whom : Addressed) (s : State) (on : Bool) (code : ℕ)
     (status : Status) (copies : List ℕ) {r : Answer} {left before later : List ℕ}
     → Served (sends (cond on RepliedForwarded Replied) s (replyTo a frame code status copies)) r (image s) before later
     → on ≡ onward a whom → status ≡ statusOf (own s (arrivedIn b a frame)) → left ≡ image s
     → Served (replied s (arrivedIn b a frame) whom code copies) r left before later
 unfolding replied sends pdu arrivedIn
-replied-served b a frame k whom s on code status copies h eo es el =
-    let g : _ = rw (eo ∙ onward-is k whom, es, source-is k, level-is k, kind-is k) at h in
+replied-served b a frame k oam whom s on code status copies h eo es el =
+    let g : _ = rw (eo ∙ onward-is k oam whom, es, source-is k, level-is k oam, kind-is k oam) at h in
     record { answered = g .answered; stored = el; written = g .written }
 
 -- ---- what a reply copies

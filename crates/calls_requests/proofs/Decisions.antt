@@ -10,7 +10,7 @@ use Rattle.octets.proofs.Cases.{by-eq}
 use Rattle.codec.specs.declared.Status.{Status}
 use Rattle.codec.specs.declared.Addressed.{Addressed}
 use Rattle.codec.specs.declared.Request.{Request}
-use Rattle.codec.specs.FrameSet.{source}
+use Rattle.codec.specs.FrameSet.{source, soam}
 use Rattle.machine.specs.declared.Session.{Session}
 use Rattle.machine.specs.declared.Machine.{Machine}
 use Rattle.machine.specs.declared.Machine.the-variants.{Inactive, Active}
@@ -48,14 +48,14 @@ module _ (s : State) (x : Arrived) where
   own-right ek em = rw ek at em
 
   -- whether it is full matters where the action admits
-  full-alike : (action seconds : ℕ) (new : Session) (m : Machine) {full : ℕ} → (action ≡ admit → (f : Flow) → full ≡ fullFor f s)
+  full-alike : (action seconds : ℕ) (new : Session) (m : Machine) {full : ℕ} → ((f : Flow) → full ≡ cond (eqb action admit) (fullFor f s) 0)
       → decided action full seconds new m ≡ decided action (fullFor (x .flow) s) seconds new m
   unfolding decided
-  full-alike action seconds new m told = by-eq action admit (λ t e. rw (t, told e (x .flow))) (λ t e. rw t)
+  full-alike action seconds new m told = by-eq action admit (λ t e. rw (told (x .flow), t)) (λ t e. rw t)
 
   decides-right : (m : Machine) (event seconds : ℕ) {new : Session} {condition action full : ℕ} {r : Decided} → event < 3
       → isAllowed (x .flow .number) s ≡ true → m ≡ own s x → new ≡ newSession x → condition ≡ conditionNumber (conditionOf true m)
-      → action ≡ actionAt condition event → (action ≡ admit → (f : Flow) → full ≡ fullFor f s)
+      → action ≡ actionAt condition event → ((f : Flow) → full ≡ cond (eqb action admit) (fullFor f s) 0)
       → r ≡ decided action full seconds new m → r ≡ decides s x (eventAt event) seconds
   unfolding decides ownAction
   decides-right m event seconds {new} {condition} {action} h ea em en ec et er ed =
@@ -72,7 +72,7 @@ module _ (s : State) (x : Arrived) where
     pub decision-right : (m : Machine) {new : Session} {condition action full : ℕ} {r : Decided} → q .fault ≡ 0 → q .event < 3
         → isAllowed (x .flow .number) s ≡ true → m ≡ own s x → new ≡ newSession x
         → condition ≡ conditionNumber (conditionOf true m) → action ≡ actionAt condition (q .event)
-        → (action ≡ admit → (f : Flow) → full ≡ fullFor f s) → r ≡ decided action full (q .seconds) new m
+        → ((f : Flow) → full ≡ cond (eqb action admit) (fullFor f s) 0) → r ≡ decided action full (q .seconds) new m
         → r ≡ decision s x request
     unfolding decision
     decision-right m none h ea em en ec et er ed =
@@ -89,7 +89,7 @@ module _ (s : State) (x : Arrived) where
       go true = decided-puts s x v quiet fits (eventAt (askedOf request .event)) (askedOf request .seconds)
       go false = tt
 
-module _ {b : List ℕ} {a : Arrival} {frame : List ℕ} (k : Known b a frame) (request : Request) {d : Decided} (ed : d ≡ decision (stateOf b) (arrivedIn b a frame) request) where
+module _ {b : List ℕ} {a : Arrival} {frame : List ℕ} (k : Known b a frame) (oam : soam (a .taglen) frame ≡ true) (request : Request) {d : Decided} (ed : d ≡ decision (stateOf b) (arrivedIn b a frame) request) where
   puts : Puts (stateOf b) (arrivedIn b a frame) (d .change)
   unfolding arrivedIn
   puts =
@@ -124,4 +124,4 @@ module _ {b : List ℕ} {a : Arrival} {frame : List ℕ} (k : Known b a frame) (
       = es
       ∙ ap (λ (n : Machine). statusOf (after (d .change) n)) (own-right s x ek em)
       ∙ ap statusOf (sym (own-changed s x (d .change) puts)) in
-      replied-served b a frame k whom t on (d .code) status copies (h t) eo told left-right
+      replied-served b a frame k oam whom t on (d .code) status copies (h t) eo told left-right

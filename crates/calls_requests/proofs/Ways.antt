@@ -10,7 +10,7 @@ use borrow.Author.Tests.{lt-ltb, le-ltb}
 use Rattle.codec.specs.declared.Addressed.{Addressed}
 use Rattle.codec.specs.declared.Read.{Read}
 use Rattle.codec.specs.declared.Request.the-variants.{Malformed, Reserved, Activate, Deactivate, State as StateRequest}
-use Rattle.codec.specs.FrameSet.{destination, pduOf}
+use Rattle.codec.specs.FrameSet.{destination, soam, pduOf}
 use Rattle.codec_tlvs.specs.Tlv.{timers}
 use Rattle.codec.specs.Request.{typeOf, tlvsOf, malformed, byType, requestOf, copiesOf, readOf, copied}
 use Rattle.machine.specs.declared.Decided.{Decided}
@@ -81,7 +81,7 @@ module _ (b : List ℕ) (a : Arrival) (frame : List ℕ) (whom : Addressed) {r :
 
 -- ---- a request, on an allowed flow or not
 
-module _ {b : List ℕ} {a : Arrival} {frame : List ℕ} (k : Known b a frame) (out : List ℕ) (whom : Addressed) where
+module _ {b : List ℕ} {a : Arrival} {frame : List ℕ} (k : Known b a frame) (oam : soam (a .taglen) frame ≡ true) (out : List ℕ) (whom : Addressed) where
   abbrev Requested : Answer → List ℕ → List ℕ → List ℕ → Type 0
   Requested = Served (requestServed (stateOf b) (arrivedIn b a frame) whom)
 
@@ -106,8 +106,8 @@ module _ {b : List ℕ} {a : Arrival} {frame : List ℕ} (k : Known b a frame) (
   module _ (prohibited : isAllowed (a .flow) (stateOf b) ≡ false) where
     pub forwarded-served : {on : Bool} → on ≡ onward a whom → on ≡ true → Requested Forwarded b out out
     unfolding requestServed arrivedIn
-    forwarded-served e on = rw (allowed-is k ∙ prohibited, sym (onward-is k whom) ∙ sym e ∙ on) (stays Forwarded out (k .ok))
+    forwarded-served e on = rw (allowed-is k ∙ prohibited, sym (onward-is k oam whom) ∙ sym e ∙ on) (stays Forwarded out (k .ok))
 
     pub dropped-served : {on : Bool} → on ≡ onward a whom → on ≡ false → Requested Dropped b out out
     unfolding requestServed arrivedIn
-    dropped-served e on = rw (allowed-is k ∙ prohibited, sym (onward-is k whom) ∙ sym e ∙ on) (stays Dropped out (k .ok))
+    dropped-served e on = rw (allowed-is k ∙ prohibited, sym (onward-is k oam whom) ∙ sym e ∙ on) (stays Dropped out (k .ok))

@@ -11,6 +11,7 @@ use Rattle.codec.specs.declared.Addressed.{Addressed}
 use Rattle.codec.specs.declared.Addressed.the-variants.{Elsewhere, Unicast, Multicast}
 use Rattle.codec.specs.declared.Request.{Request}
 use Rattle.codec.specs.declared.Request.the-variants.{Malformed, Reserved, Activate, Deactivate, State as StateRequest}
+use Rattle.codec.specs.FrameSet.{soam}
 use Rattle.codec.specs.Request.{headingOf}
 use Rattle.machine.specs.declared.Session.{Session}
 use Rattle.machine.specs.declared.Decided.{Decided}
@@ -40,7 +41,7 @@ arrivedIn b a frame =
       frame = frame;
     }
 
--- what is known of it once the call is not refused and a flow is found
+-- what is known of it once the call is not refused and a flow is found; of its MP, where it is service OAM
 pub record Known (b : List ℕ) (a : Arrival) (frame : List ℕ) : Type 0 where
   pub ok : okImage b ≡ true
   pub quiet : noticeDue (stateOf b) ≡ false
@@ -54,7 +55,7 @@ pub record Known (b : List ℕ) (a : Arrival) (frame : List ℕ) : Type 0 where
   pub read-once : a .heading ≡ headingOf (a .taglen) frame
   pub source-fits : a .heading .source < 2 ^ 48
   pub level-fits : a .heading .level < 8
-  pub mp-same : a .mp ≡ mpOf (arrivedIn b a frame)
+  pub mp-same : soam (a .taglen) frame ≡ true → a .mp ≡ mpOf (arrivedIn b a frame)
   pub frame-fits : length frame ≤ 2000
 
 -- a multicast request at a MIP goes on to others, by what was read

@@ -20,9 +20,11 @@ use state::full_for;
 use state_store::put_session;
 use state_store::remove_session;
 ghost use mathlib.Core.Path.{_≡_};
-ghost use mathlib.Core.Bool.{true};
-ghost use Prim.Native.Nat.{ℕ, _+_, _<_, _≤_};
+ghost use mathlib.Core.Bool.{true, cond};
+ghost use Prim.Native.Nat.{_+_, _<_, _≤_};
+ghost use lib.Dec.{eqb};
 ghost use lib.ListN.{length};
+ghost use Rattle.codec.specs.FrameSet.{soam};
 ghost use Rattle.machine.specs.declared.Session.{Session};
 ghost use Rattle.machine.specs.declared.Machine.the-variants.{Inactive, Active};
 ghost use Rattle.machine.specs.Table.{admit};
@@ -74,10 +76,10 @@ fn asked_of(request: Request) -> Asked
     }
 }
 
-// For an action that admits: is the unit full for one more session? 0, or the code of the reply.
+// For an action that admits: is the unit full for one more session? 0, or the code of the reply. For any other: 0.
 fn full_at(b: &[u8], action: u8) -> u8
     requires { ⌜ length (now b) ≡ 4096 ⌝ }
-    ensures { λ r. ⌜ (action ≡ admit → (f : Flow) → r ≡ fullFor f (stateOf (now (b .entry)))) ⌝ }
+    ensures { λ r. ⌜ ((f : Flow) → r ≡ cond (eqb action admit) (fullFor f (stateOf (now (b .entry)))) 0) ⌝ }
 {
     if action == ADMIT {
         return full_for(b);
@@ -89,7 +91,7 @@ fn full_at(b: &[u8], action: u8) -> u8
 pub fn decides(b: &[u8], a: Arrival, frame: &[u8], m: Machine, request: Request) -> Decided
     requires { ⌜ Known (now b) a (now frame) ⌝ }
     requires { ⌜ (isAllowed (a .flow) (stateOf (now b)) ≡ true)
-        × (m ≡ own (stateOf (now b)) (arrivedIn (now b) a (now frame))) ⌝ }
+        × ((m ≡ own (stateOf (now b)) (arrivedIn (now b) a (now frame))) × (soam (a .taglen) (now frame) ≡ true)) ⌝ }
     ensures { λ r. ⌜ r ≡ decision (stateOf (now (b .entry))) (arrivedIn (now (b .entry)) a (now (frame .entry))) request ⌝ }
 {
     let q = asked_of(request);
@@ -104,12 +106,11 @@ pub fn decides(b: &[u8], a: Arrival, frame: &[u8], m: Machine, request: Request)
     decide(act, full_at(b, act), q.seconds, new, m)
 }
 
-// Writes the change of the session of a row, or of one that has no row yet (0).
-pub fn change_session(b: &mut [u8], row: usize, change: Change)
-    requires { ⌜ (okImage (now b) ≡ true) × (row ≤ 2016) ⌝ }
+// Writes the change of the session of a key, which has this row, or 0 where it has none yet.
+pub fn change_session(b: &mut [u8], key: u64, row: usize, change: Change)
+    requires { ⌜ (okImage (now b) ≡ true) × (row ≡ sessionAt key (now b)) ⌝ }
     requires { ⌜ ((x : Session) → after change Inactive ≡ Active x → Placed (now b) row x) ⌝ }
-    ensures { λ _. ⌜ ((key : ℕ) → row ≡ sessionAt key (now (b .entry))
-        → now (b .exit) ≡ image (changed key change (stateOf (now (b .entry))))) ⌝ }
+    ensures { λ _. ⌜ now (b .exit) ≡ image (changed key change (stateOf (now (b .entry)))) ⌝ }
 {
     match change {
         Change::Same => {}

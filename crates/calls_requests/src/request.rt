@@ -10,14 +10,15 @@ use machine::key;
 use machine::status_after;
 use plan::MIP;
 use state::allows;
-use state::find_machine;
+use state::machine_at;
+use state::session_at;
 use state::wide;
 ghost use mathlib.Core.Path.{_≡_};
 ghost use mathlib.Core.Bool.{true, false, cond};
 ghost use Prim.Native.Nat.{_+_, _≤_};
 ghost use lib.Dec.{eqb};
 ghost use lib.ListN.{length};
-ghost use Rattle.codec.specs.FrameSet.{destination, pduOf};
+ghost use Rattle.codec.specs.FrameSet.{destination, soam, pduOf};
 ghost use Rattle.codec.specs.Request.{requestOf};
 ghost use Rattle.state.specs.State.{isAllowed};
 ghost use Rattle.state.specs.Image.{stateOf};
@@ -38,7 +39,8 @@ fn goes_on(a: Arrival, whom: Addressed) -> bool
 // The request read and answered, on an allowed flow: the change is written, and the reply says how the machine is then.
 fn answers(b: &mut [u8], a: Arrival, frame: &[u8], out: &mut [u8], whom: Addressed) -> Answer
     requires { ⌜ (Known (now b) a (now frame)) × (2008 ≤ length (now out)) ⌝ }
-    requires { ⌜ (isAllowed (a .flow) (stateOf (now b)) ≡ true) × (26 + a .taglen ≤ length (now frame)) ⌝ }
+    requires { ⌜ (isAllowed (a .flow) (stateOf (now b)) ≡ true)
+        × ((26 + a .taglen ≤ length (now frame)) × (soam (a .taglen) (now frame) ≡ true)) ⌝ }
     ensures { λ r. ⌜ Served (answers (stateOf (now (b .entry))) (arrivedIn (now (b .entry)) a (now (frame .entry))) whom
         (requestOf whom (destination (now (frame .entry))) (pduOf (a .taglen) (now (frame .entry)))))
         r (now (b .exit)) (now (out .entry)) (now (out .exit)) ⌝ }
@@ -46,11 +48,12 @@ fn answers(b: &mut [u8], a: Arrival, frame: &[u8], out: &mut [u8], whom: Address
     let h = a.heading;
     let read = read_behind(whom, h, a.taglen, frame);
     let request = read.request;
-    let found = find_machine(b, key(a.flow as u16, h.source));
-    let m = found.machine;
+    let own = key(a.flow as u16, h.source);
+    let row = session_at(b, own);
+    let m = machine_at(b, row);
     let d = decides(b, a, frame, m, request);
     let change = d.change;
-    change_session(b, found.row, change);
+    change_session(b, own, row, change);
     reply(
         out,
         a,
@@ -69,7 +72,8 @@ pub fn serve_request(
     out: &mut [u8],
     whom: Addressed,
 ) -> Answer
-    requires { ⌜ (Known (now image) a (now frame)) × (2008 ≤ length (now out)) ⌝ }
+    requires { ⌜ (Known (now image) a (now frame))
+        × ((2008 ≤ length (now out)) × (soam (a .taglen) (now frame) ≡ true)) ⌝ }
     ensures { λ r. ⌜ Served
         (requestServed (stateOf (now (image .entry))) (arrivedIn (now (image .entry)) a (now (frame .entry))) whom)
         r (now (image .exit)) (now (out .entry)) (now (out .exit)) ⌝ }

@@ -16,8 +16,9 @@ use Rattle.codec.specs.declared.Place.{Place}
 use Rattle.codec.specs.declared.Place.the-variants.{NoSet, InSet}
 use Rattle.codec.specs.declared.Addressed.{Addressed}
 use Rattle.codec.specs.declared.Addressed.the-variants.{Elsewhere}
-use Rattle.codec.specs.FrameSet.{only, setsOf, setsIn, source, pduOf}
-use Rattle.codec.specs.Request.{isRequest, addressed, headingOf}
+use Rattle.codec.specs.FrameSet.{only, setsOf, setsIn, source, soam, pduOf}
+use Rattle.codec.specs.Request.{llm, opcodeOf, isRequest, addressedBy, addressed, headingOf}
+use Rattle.codec.proofs.Headings.{by-soam, heading-source, heading-request, heading-level}
 use Rattle.codec.specs.declared.Heading.{Heading}
 use Rattle.codec.proofs.Places.{tag-few, tag-whole}
 use Rattle.plan.specs.declared.Port.{Port}
@@ -36,7 +37,7 @@ use Rattle.calls.proofs.PlaceSets.{InPlace, in-place}
 use Rattle.calls.proofs.SetFlows.{of-set}
 use Rattle.calls_requests.specs.declared.Arrival.{Arrival}
 use Rattle.calls_requests.specs.Arrival.{Known, Served, arrivedIn}
-use Rattle.calls_requests.proofs.Arrivals.{destination-is}
+use Rattle.calls_requests.proofs.Arrivals.{destination-is, level-is, kind-is}
 use Rattle.calls_requests.proofs.Ways.{stays}
 use Rattle.calls_serving.specs.Preconditions.{Fair}
 
@@ -44,30 +45,40 @@ use Rattle.calls_serving.specs.Preconditions.{Fair}
 
 module _ {b : List ℕ} {a : Arrival} {frame : List ℕ} (k : Known b a frame) where
   request-is : isRequest (a .taglen) frame ≡ a .heading .request
-  unfolding headingOf
-  request-is = rw (k .read-once)
+  request-is = rw (k .read-once) (sym (heading-request (a .taglen) frame))
+
+  no-oam : soam (a .taglen) frame ≡ false → forMp (arrivedIn b a frame) ≡ Elsewhere
+  unfolding forMp isRequest arrivedIn
+  no-oam e = simp e
+
+  -- A frame that is for an MP is service OAM.
+  pub for-oam : (forMp (arrivedIn b a frame) ≡ Elsewhere → ⊥) → soam (a .taglen) frame ≡ true
+  for-oam here = by-soam (a .taglen) frame (λ e. e) (λ e. absurd (here (no-oam e)))
 
   pub no-request : a .heading .request ≡ false → Elsewhere ≡ forMp (arrivedIn b a frame)
   unfolding forMp arrivedIn
   no-request e = simp (request-is ∙ e)
 
   module _ {facing : Bool} (is : a .heading .request ≡ true) (faced : facing ≡ faces (a .mp) (a .side)) where
+    oam : soam (a .taglen) frame ≡ true
+    unfolding isRequest
+    oam = both-true (soam (a .taglen) frame) (eqb (opcodeOf (pduOf (a .taglen) frame)) llm) (request-is ∙ is) .0
+
     facing-mp : faces (mpOf (arrivedIn b a frame)) (a .side) ≡ facing
-    facing-mp = rw (faced, ← k .mp-same)
+    facing-mp = rw (faced, ← k .mp-same oam)
 
     pub no-mp : facing ≡ false → Elsewhere ≡ forMp (arrivedIn b a frame)
     unfolding forMp arrivedIn
     no-mp e = simp (request-is ∙ is, facing-mp ∙ e)
 
-    pub at-mp : facing ≡ true → {whom : Addressed} → whom ≡ addressed (a .port .address) (a .heading .destination) (pduOf (a .taglen) frame)
+    pub at-mp : facing ≡ true → {whom : Addressed}
+        → whom
+        ≡ addressedBy (a .port .address) (a .heading .destination) (a .heading .level) (a .heading .kind) (length frame - (14 + a .taglen))
         → whom ≡ forMp (arrivedIn b a frame)
-    unfolding forMp pdu arrivedIn
-    at-mp e said = simp (request-is ∙ is, facing-mp ∙ e) (rw (← destination-is k) said)
-
--- how long its PDU is
-pub pdu-long : (taglen : ℕ) (frame : List ℕ) → length frame - (14 + taglen) ≡ length (pduOf taglen frame)
-unfolding pduOf
-pdu-long taglen frame = sym (length-drop (14 + taglen) frame)
+    unfolding forMp pdu pduOf arrivedIn addressed
+    at-mp e said =
+        simp (request-is ∙ is, facing-mp ∙ e)
+        (rw (destination-is k, level-is k oam, kind-is k oam, ← length-drop (14 + a .taglen) frame) at said)
 
 -- it is served by whom it is for
 pub by-whom : (b : List ℕ) (a : Arrival) (frame : List ℕ) {answer : Answer} {left before after : List ℕ} (whom : Addressed)
@@ -161,12 +172,11 @@ module _ (b : List ℕ) (own : Port) (side : ℕ) (frame out : List ℕ) (k : Fa
             (number-few (λ f. eqb (flowKey f) (setKey (own .number) (set .kind) (set .vid))) (stateOf b .plan .flows)
             (ok-numbers b (k .ok)))
 
-        mp-right : mp ≡ mpOf (arrivedIn b arrival frame)
-        unfolding mpOf pdu headingOf arrivedIn
-        mp-right = mped ∙ rw (heading, flow-of, of-number)
+        mp-right : soam taglen frame ≡ true → mp ≡ mpOf (arrivedIn b arrival frame)
+        unfolding mpOf pdu arrivedIn
+        mp-right oam = mped ∙ rw (heading, heading-level taglen frame oam, flow-of, of-number)
 
         pub known : source frame < 2 ^ 48 → h .level < 8 → Known b arrival frame
-        unfolding headingOf
         known small low =
             record {
               ok = k .ok;
@@ -179,7 +189,7 @@ module _ (b : List ℕ) (own : Port) (side : ℕ) (frame out : List ℕ) (k : Fa
               tag-few = tag-few frame (own .kind) there (k .frame-some);
               tag-whole = tag-whole frame (own .kind) there (k .frame-some);
               read-once = heading;
-              source-fits = rw heading small;
+              source-fits = rw (heading, heading-source taglen frame) small;
               level-fits = low;
               mp-same = mp-right;
               frame-fits = k .frame-fits;

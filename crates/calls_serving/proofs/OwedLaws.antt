@@ -1,47 +1,31 @@
 -- The session that is first owed a notice, in a valid state: it is one of the sessions, and fits a notice.
-use mathlib.Core.Path.{_≡_, refl, sym, ap, _∙_}
+use mathlib.Core.Path.{_≡_, sym, ap, _∙_}
 use mathlib.Core.Bool.{Bool, true, false, cond, not, _&&_, true≢false}
-use mathlib.Core.List.{List, [], _∷_}
+use mathlib.Core.List.{List}
 use Prim.Native.Nat.{ℕ, _/_, _^_, _<_, _≤_}
 use native.Mathlib.Omega.{arith}
 use lib.Dec.{eqb, ltb}
 use lib.ListN.{length, drop, List·getD-eq-default}
 use borrow.Author.Tests.{eq-eqb, eqb-true}
-use Rattle.octets.specs.Lists.{every, some, first}
 use Rattle.octets.proofs.Same.{both-true}
 use Rattle.octets.proofs.Cases.{by-lt}
 use Rattle.codec.specs.declared.FrameSet.{FrameSet}
 use Rattle.codec.specs.FrameSet.{untagged, c-tagged, c-tag, s-tag, group, setOf, vidOf, tagFits}
 use Rattle.machine.specs.declared.Session.{Session}
-use Rattle.machine.specs.Machine.{keyOf, isOpen}
+use Rattle.machine.specs.Machine.{keyOf}
 use Rattle.plan.specs.declared.Flow.{Flow}
 use Rattle.plan.specs.Plan.{flowNumbered, inPlan, mpAt, faces, goodFlow}
 use Rattle.plan.proofs.Kept.{rules}
 use Rattle.plan.proofs.Found.{flow-passes}
-use Rattle.state.specs.State.{State, isAllowed, goodTime, goodSession, valid, noticeDue, noSession, firstOwed}
+use Rattle.state.specs.State.{State, isAllowed, goodTime, goodSession, valid, firstOwed}
 use Rattle.state.specs.Image.{sessionIn, stateOf}
 use Rattle.state.specs.Rows.{sessionAt, owedAt}
 use Rattle.state.proofs.Rules.{Valid, valid-parts}
 use Rattle.state.proofs.Fits.{good-flow, good-fits}
 use Rattle.state.proofs.ImageLaws.{ok-valid}
 use Rattle.state.proofs.Answers.{owed-found, notice-found}
-use Rattle.state.proofs.OwedRow.{by-test, owed-keyed}
+use Rattle.state.proofs.OwedRow.{owed-such, owed-keyed}
 use Rattle.calls_serving.specs.Preconditions.{NoticeKnown}
-
-first-good : {A : Type 0} (test good : A → Bool) (other : A) (xs : List A) → some test xs ≡ true → every good xs ≡ true
-    → good (first test other xs) ≡ true
-unfolding some every first
-first-good test good other [] h e = absurd (true≢false (sym h))
-first-good test good other (x ∷ xs) h e =
-    let b : _ = both-true (good x) (every good xs) e in
-    by-test (test x)
-    (λ q. rw q (b .0))
-    (λ q. let g : some test xs ≡ true = rw q at h in rw q (first-good test good other xs g (b .1)))
-
-owed-good : (s : State) → valid s ≡ true → noticeDue s ≡ true → goodSession s (firstOwed s) ≡ true
-unfolding noticeDue firstOwed
-owed-good s v due =
-    first-good (λ (x : Session). not (isOpen x)) (goodSession s) noSession (s .sessions) due (valid-parts s v .sessions-good)
 
 -- ---- what a notice needs of it
 
@@ -108,7 +92,7 @@ session-fits s x v h =
 pub owed-fits : {l out : List ℕ} → NoticeKnown l out → {x : Session} → x ≡ firstOwed (stateOf l) → NoticeFits x
 owed-fits {l} k e =
     let v : valid (stateOf l) ≡ true = ok-valid l (k .ok) in
-    rw e (session-fits (stateOf l) (firstOwed (stateOf l)) v (owed-good (stateOf l) v (k .due)))
+    rw e (session-fits (stateOf l) (firstOwed (stateOf l)) v (owed-such (stateOf l) v (k .due) (goodSession (stateOf l)) (λ x o good. good)))
 
 -- ---- its row
 

@@ -83,7 +83,7 @@ request-parts whom to pdu o e h =
     let f : Formed whom to pdu = formed whom to pdu h in
     let n : ℕ = 4 + offsetOf pdu in
     let far : 8 ≤ offsetOf pdu = offset-high pdu (f .offset) in
-    let good : tlvsOf pdu .bad ≡ false = good-list (tlvsOf pdu) (f .list) .0 in
+    let good : tlvsOf pdu .bad ≡ false = good-list (tlvsOf pdu) (f .list) in
     let inside : n ≤ length pdu = omega (arith, parse-short (drop n pdu) good, length-drop n pdu) in
     let m : Listed (drop n pdu) (tlvsOf pdu .tlvs) = parse-listed (drop n pdu) (octets-drop n pdu o) good in
     by-parts pdu o e far inside m

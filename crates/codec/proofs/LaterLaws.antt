@@ -8,8 +8,8 @@ use lib.ListN.{length, drop, getD}
 use borrow.Author.Tests.{le-leb, le-ltb, ne-eqb}
 use Rattle.octets.specs.Octets.{number}
 use Rattle.octets.specs.Lists.{some}
-use Rattle.codec_tlvs.specs.Tlv.{badTlv, timers, badList}
-use Rattle.codec_tlvs.specs.Additions.{Added, unknowns}
+use Rattle.codec_tlvs.specs.Tlv.{badTlv, timers, badList, unknowns}
+use Rattle.codec_tlvs.specs.Additions.{Added}
 use Rattle.codec_tlvs.proofs.AddedLaws.{added-timers, added-bad, added-unknowns}
 use Rattle.codec.specs.declared.Addressed.{Addressed}
 use Rattle.codec.specs.declared.Addressed.the-variants.{Elsewhere, Unicast, Multicast}
@@ -70,7 +70,7 @@ module _ {r q : Parts} (l : LaterParts r q) where
     unfolding untimed
     same-untimed = rw (parsed lq, parsed lr, later-type, later-timers)
 
-    pub later-formed : (whom : Addressed) (to : ℕ) → malformed whom to (pduIn r) ≡ false → malformed whom to (pduIn q) ≡ false
+    later-formed : (whom : Addressed) (to : ℕ) → malformed whom to (pduIn r) ≡ false → malformed whom to (pduIn q) ≡ false
     unfolding malformed
     later-formed whom to h =
         let f : Formed whom to (pduIn r) = formed whom to (pduIn r) h in

@@ -7,17 +7,11 @@ use native.Mathlib.Omega.{arith}
 use lib.ListN.{length, drop, getD, length-append, length-drop, List·getD-append}
 use lib.Seq.{drop-append-le, drop-at}
 use Rattle.octets.specs.Octets.{number}
-use Rattle.octets.specs.Lists.{some}
 use Rattle.octets.proofs.Laws.{number-on}
-use Rattle.codec_tlvs.specs.Tlv.{badTlv}
-use Rattle.codec_tlvs.specs.Additions.{tlvList, unknowns}
-use Rattle.codec_tlvs.proofs.Short.{good-list}
+use Rattle.codec_tlvs.specs.Tlv.{unknowns, tlvList}
 use Rattle.codec_tlvs.proofs.Written.{parse-list}
-use Rattle.codec_tlvs.proofs.AddedLaws.{unknown-list}
-use Rattle.codec.specs.declared.Addressed.{Addressed}
-use Rattle.codec.specs.Request.{octet, levelOf, versionOf, opcodeOf, offsetOf, typeOf, portMacOf, tlvsOf, malformed, copiesOf}
+use Rattle.codec.specs.Request.{octet, levelOf, versionOf, opcodeOf, offsetOf, typeOf, portMacOf, tlvsOf, copiesOf}
 use Rattle.codec.specs.Later.{Parts, Laid, pduIn}
-use Rattle.codec.proofs.Short.{formed}
 
 -- the header; the TLV list with its End and what stands behind it
 abbrev pub head : Parts → List ℕ
@@ -78,10 +72,6 @@ module _ {r : Parts} (lr : Laid r) where
       (parse-list (r .tlvs) (r .behind) (lr .whole))
 
   -- what a reply to it copies
-  pub copies-are : (whom : Addressed) (to : ℕ) → malformed whom to (pduIn r) ≡ false
-      → copiesOf (pduIn r) ≡ tlvList (unknowns (r .tlvs))
+  pub copies-are : copiesOf (pduIn r) ≡ tlvList (unknowns (r .tlvs))
   unfolding copiesOf
-  copies-are whom to h =
-      let good : some badTlv (tlvsOf (pduIn r) .tlvs) ≡ false =
-      good-list (tlvsOf (pduIn r)) (formed whom to (pduIn r) h .list) .1 in
-      rw parsed (unknown-list (r .tlvs) (rw parsed at good))
+  copies-are = rw parsed

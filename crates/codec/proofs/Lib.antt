@@ -8,3 +8,4 @@ pub mod LaterRead
 pub mod LaterLaws
 pub mod LaterEvery
 pub mod FrameParts
+pub mod Headings

@@ -2,12 +2,11 @@
 use mathlib.Core.Path.{_≡_, refl}
 use mathlib.Core.List.{List, [], _∷_, _++_, map}
 use Prim.Native.Nat.{ℕ}
-use Prim.Native.String.{String}
 use Rattle.octets.specs.Octets.{number, octets}
 use Rattle.octets.specs.Lists.{some}
-use Rattle.octets.specs.Text.{hex, hexed, text, digit}
+use Rattle.octets.specs.Text.{hex}
 use Rattle.codec_tlvs.specs.Tlv.{Parsed, ended, cut, followed, walk, parse, subtype, isTimer, badTlv, timers, badList}
-use Rattle.codec_tlvs.specs.Tlv.{tlvOctets, unknown}
+use Rattle.codec_tlvs.specs.Tlv.{isUnknown, unknowns, tlvOctets, tlvList}
 use Rattle.codec.specs.declared.Addressed.{Addressed}
 use Rattle.codec.specs.declared.Addressed.the-variants.{Elsewhere, Unicast, Multicast}
 use Rattle.codec.specs.declared.Request.{Request}
@@ -18,45 +17,40 @@ use Rattle.codec.specs.Request.{wrongMac, wrongOffset, untimed, malforme
 abbrev port : ℕ
 port = 0x020000000001
 
--- octets as they are written
-shown : String → List ℕ
-unfolding hex hexed text digit
-shown written = hex written
-
 -- the destination, the PDU, and whom that means at the port
-abbrev destinations : List (ℕ × String × Addressed)
+abbrev destinations : List (ℕ × List ℕ × Addressed)
 destinations =
-    (port, "80 39", Unicast)
-    ∷ (0x020000000002, "80 39 00 08 03 00 02 00 00 00 00 01", Elsewhere)
+    (port, hex "80 39", Unicast)
+    ∷ (0x020000000002, hex "80 39 00 08 03 00 02 00 00 00 00 01", Elsewhere)
     -- the group address of the PDU's level
-    ∷ (0x0180C2000038, "00 39 00 08 03 00 02 00 00 00 00 01", Multicast)
-    ∷ (0x0180C200003C, "80 39 00 08 03 00 02 00 00 00 00 01", Multicast)
-    ∷ (0x0180C200003F, "E0 39 00 08 03 00 02 00 00 00 00 01", Multicast)
+    ∷ (0x0180C2000038, hex "00 39 00 08 03 00 02 00 00 00 00 01", Multicast)
+    ∷ (0x0180C200003C, hex "80 39 00 08 03 00 02 00 00 00 00 01", Multicast)
+    ∷ (0x0180C200003F, hex "E0 39 00 08 03 00 02 00 00 00 00 01", Multicast)
     -- of another level
-    ∷ (0x0180C200003D, "80 39 00 08 03 00 02 00 00 00 00 01", Elsewhere)
+    ∷ (0x0180C200003D, hex "80 39 00 08 03 00 02 00 00 00 00 01", Elsewhere)
     -- with another type than 3
-    ∷ (0x0180C200003C, "80 39 00 08 01 00 02 00 00 00 00 01", Elsewhere)
-    ∷ (0x0180C200003C, "80 39 00 08 02 00 02 00 00 00 00 01", Elsewhere)
+    ∷ (0x0180C200003C, hex "80 39 00 08 01 00 02 00 00 00 00 01", Elsewhere)
+    ∷ (0x0180C200003C, hex "80 39 00 08 02 00 02 00 00 00 00 01", Elsewhere)
     -- with 11 octets
-    ∷ (0x0180C200003C, "80 39 00 08 03 00 02 00 00 00 00", Elsewhere)
+    ∷ (0x0180C200003C, hex "80 39 00 08 03 00 02 00 00 00 00", Elsewhere)
     -- any other group address
-    ∷ (0xFFFFFFFFFFFF, "80 39 00 08 03 00 02 00 00 00 00 01", Elsewhere)
+    ∷ (0xFFFFFFFFFFFF, hex "80 39 00 08 03 00 02 00 00 00 00 01", Elsewhere)
     ∷ []
 
 port-address-or-that-of-the-level :
-    map (λ row. (row .0, row .1, addressed port (row .0) (shown (row .1)))) destinations ≡ destinations
-unfolding addressed class2 levelOf typeOf octet shown
+    map (λ row. (row .0, row .1, addressed port (row .0) (row .1))) destinations ≡ destinations
+unfolding addressed class2 levelOf typeOf octet hex
 port-address-or-that-of-the-level = refl
 
 -- octet 1 has the level in its upper 3 bits; an empty PDU counts as level 0
-level-of-a-pdu : map levelOf ([] ∷ shown "80" ∷ shown "9F 39" ∷ shown "FF 39" ∷ []) ≡ 0 ∷ 4 ∷ 4 ∷ 7 ∷ []
-unfolding levelOf octet shown
+level-of-a-pdu : map levelOf ([] ∷ hex "80" ∷ hex "9F 39" ∷ hex "FF 39" ∷ []) ≡ 0 ∷ 4 ∷ 4 ∷ 7 ∷ []
+unfolding levelOf octet hex
 level-of-a-pdu = refl
 
 -- the PDU of a request of this type that names the port
-pdu : ℕ → String → List ℕ
-unfolding shown
-pdu kind tlvs = shown "80 39 00 08" ++ kind ∷ shown "00 02 00 00 00 00 01" ++ shown tlvs
+pdu : ℕ → List ℕ → List ℕ
+unfolding hex
+pdu kind tlvs = hex "80 39 00 08" ++ kind ∷ hex "00 02 00 00 00 00 01" ++ tlvs
 
 -- the TLVs of a request, looked into
 listed : List ℕ → Parsed
@@ -73,28 +67,28 @@ abbrev types : List (ℕ × Request)
 types = (0, Reserved) ∷ (1, Activate 60) ∷ (2, Deactivate) ∷ (3, State) ∷ (4, Reserved) ∷ (255, Reserved) ∷ []
 
 each-type-is-known-or-reserved :
-    map (λ row. (row .0, said Unicast (pdu (row .0) "25 00 05 01 00 00 00 3C 00"))) types ≡ types
+    map (λ row. (row .0, said Unicast (pdu (row .0) (hex "25 00 05 01 00 00 00 3C 00")))) types ≡ types
 unfolding said pdu
 each-type-is-known-or-reserved = refl
 
 -- TLVs that make a request of any type malformed
-abbrev bad-lists : List String
+abbrev bad-lists : List (List ℕ)
 bad-lists =
     -- no End
-    ""
-    ∷ "25 00 05 01 00 00 00 3C"
+    hex ""
+    ∷ hex "25 00 05 01 00 00 00 3C"
     -- a length that is cut, values past the PDU
-    ∷ "25 00 05 01 00 00 00 3C 09 00"
-    ∷ "25 00 05 01 00 00 00 3C 09 00 02 FF"
-    ∷ "25 00 05 01 00 00 00 3C 09 01 00 00"
+    ∷ hex "25 00 05 01 00 00 00 3C 09 00"
+    ∷ hex "25 00 05 01 00 00 00 3C 09 00 02 FF"
+    ∷ hex "25 00 05 01 00 00 00 3C 09 01 00 00"
     -- type 37 with length 0
-    ∷ "25 00 05 01 00 00 00 3C 25 00 00 00"
+    ∷ hex "25 00 05 01 00 00 00 3C 25 00 00 00"
     -- a timer of length 4, of length 6 and of its subtype alone
-    ∷ "25 00 04 01 00 00 3C 00"
-    ∷ "25 00 06 01 00 00 00 3C 00 00"
-    ∷ "25 00 05 01 00 00 00 3C 25 00 01 01 00"
+    ∷ hex "25 00 04 01 00 00 3C 00"
+    ∷ hex "25 00 06 01 00 00 00 3C 00 00"
+    ∷ hex "25 00 05 01 00 00 00 3C 25 00 01 01 00"
     -- a second timer
-    ∷ "25 00 05 01 00 00 00 3C 25 00 05 01 00 00 00 3C 00"
+    ∷ hex "25 00 05 01 00 00 00 3C 25 00 05 01 00 00 00 3C 00"
     ∷ []
 
 malformed-goes-before-the-type :
@@ -104,55 +98,55 @@ unfolding said pdu
 malformed-goes-before-the-type = refl
 
 -- whole requests, whom they are sent to, and what they say
-abbrev requests : List (Addressed × String × Request)
+abbrev requests : List (Addressed × List ℕ × Request)
 requests =
     -- the Loopback Port MAC, like and unlike the destination
-    (Unicast, "80 39 00 08 03 00 02 00 00 00 00 01 00", State)
-    ∷ (Unicast, "80 39 00 08 03 00 02 00 00 00 00 02 00", Malformed)
-    ∷ (Unicast, "80 39 00 08 03 00 00 00 00 00 00 00 00", Malformed)
-    ∷ (Multicast, "80 39 00 08 03 00 00 00 00 00 00 00 00", State)
+    (Unicast, hex "80 39 00 08 03 00 02 00 00 00 00 01 00", State)
+    ∷ (Unicast, hex "80 39 00 08 03 00 02 00 00 00 00 02 00", Malformed)
+    ∷ (Unicast, hex "80 39 00 08 03 00 00 00 00 00 00 00 00", Malformed)
+    ∷ (Multicast, hex "80 39 00 08 03 00 00 00 00 00 00 00 00", State)
     -- version 0 with offset 7, 9 and 10
-    ∷ (Unicast, "80 39 00 07 03 00 02 00 00 00 00 01 00 00 00", Malformed)
-    ∷ (Unicast, "80 39 00 09 03 00 02 00 00 00 00 01 00 00 00", Malformed)
-    ∷ (Unicast, "80 39 00 0A 03 00 02 00 00 00 00 01 00 00 00", Malformed)
+    ∷ (Unicast, hex "80 39 00 07 03 00 02 00 00 00 00 01 00 00 00", Malformed)
+    ∷ (Unicast, hex "80 39 00 09 03 00 02 00 00 00 00 01 00 00 00", Malformed)
+    ∷ (Unicast, hex "80 39 00 0A 03 00 02 00 00 00 00 01 00 00 00", Malformed)
     -- another version with offset 7, 8 and 10
-    ∷ (Unicast, "81 39 00 07 03 00 02 00 00 00 00 01 00 00 00", Malformed)
-    ∷ (Unicast, "81 39 00 08 03 00 02 00 00 00 00 01 00 00 00", State)
-    ∷ (Unicast, "81 39 00 0A 03 00 02 00 00 00 00 01 00 00 00", State)
-    ∷ (Unicast, "9F 39 00 0A 03 00 02 00 00 00 00 01 00 00 00", State)
+    ∷ (Unicast, hex "81 39 00 07 03 00 02 00 00 00 00 01 00 00 00", Malformed)
+    ∷ (Unicast, hex "81 39 00 08 03 00 02 00 00 00 00 01 00 00 00", State)
+    ∷ (Unicast, hex "81 39 00 0A 03 00 02 00 00 00 00 01 00 00 00", State)
+    ∷ (Unicast, hex "9F 39 00 0A 03 00 02 00 00 00 00 01 00 00 00", State)
     -- the first TLV past the PDU
-    ∷ (Unicast, "81 39 00 0B 03 00 02 00 00 00 00 01 00 00 00", Malformed)
-    ∷ (Unicast, "81 39 00 FF 03 00 02 00 00 00 00 01 00 00 00", Malformed)
+    ∷ (Unicast, hex "81 39 00 0B 03 00 02 00 00 00 00 01 00 00 00", Malformed)
+    ∷ (Unicast, hex "81 39 00 FF 03 00 02 00 00 00 00 01 00 00 00", Malformed)
     -- an Activate without a timer, and with one behind the End
-    ∷ (Unicast, "80 39 00 08 01 00 02 00 00 00 00 01 00", Malformed)
-    ∷ (Unicast, "80 39 00 08 01 00 02 00 00 00 00 01 00 25 00 05 01 00 00 00 3C 00", Malformed)
+    ∷ (Unicast, hex "80 39 00 08 01 00 02 00 00 00 00 01 00", Malformed)
+    ∷ (Unicast, hex "80 39 00 08 01 00 02 00 00 00 00 01 00 25 00 05 01 00 00 00 3C 00", Malformed)
     -- flags and response code are not looked at
-    ∷ (Unicast, "80 39 FF 08 01 0A 02 00 00 00 00 01 25 00 05 01 00 00 00 3C 00", Activate 60)
+    ∷ (Unicast, hex "80 39 FF 08 01 0A 02 00 00 00 00 01 25 00 05 01 00 00 00 3C 00", Activate 60)
     -- seconds have four octets
-    ∷ (Unicast, "80 39 00 08 01 00 02 00 00 00 00 01 25 00 05 01 FE DC BA 98 00", Activate 0xFEDCBA98)
+    ∷ (Unicast, hex "80 39 00 08 01 00 02 00 00 00 00 01 25 00 05 01 FE DC BA 98 00", Activate 0xFEDCBA98)
     ∷ []
 
-each-request-is-read : map (λ row. (row .0, row .1, said (row .0) (shown (row .1)))) requests ≡ requests
-unfolding said shown
+each-request-is-read : map (λ row. (row .0, row .1, said (row .0) (row .1))) requests ≡ requests
+unfolding said hex
 each-request-is-read = refl
 
 -- requests to the port, what they say, and the octets that their replies copy
-abbrev copied : List (String × Request × List ℕ)
+abbrev copied : List (List ℕ × Request × List ℕ)
 copied =
     -- B1 and B2
-    ("80 39 00 08 01 00 02 00 00 00 00 01 25 00 05 01 00 00 00 3C 00", Activate 60, [])
-    ∷ ("81 39 00 0A 01 00 02 00 00 00 00 01 00 00 09 00 01 FF 25 00 05 01 00 00 00 3C 00", Activate 60, shown "09 00 01 FF")
+    (hex "80 39 00 08 01 00 02 00 00 00 00 01 25 00 05 01 00 00 00 3C 00", Activate 60, [])
+    ∷ (hex "81 39 00 0A 01 00 02 00 00 00 00 01 00 00 09 00 01 FF 25 00 05 01 00 00 00 3C 00", Activate 60, hex "09 00 01 FF")
     -- a timer is no unknown TLV, also where it is ignored
-    ∷ ("80 39 00 08 02 00 02 00 00 00 00 01 25 00 05 01 00 00 00 3C 00", Deactivate, [])
-    ∷ ("80 39 00 08 09 00 02 00 00 00 00 01 25 00 05 01 00 00 00 3C 09 00 01 FF 00", Reserved, shown "09 00 01 FF")
+    ∷ (hex "80 39 00 08 02 00 02 00 00 00 00 01 25 00 05 01 00 00 00 3C 00", Deactivate, [])
+    ∷ (hex "80 39 00 08 09 00 02 00 00 00 00 01 25 00 05 01 00 00 00 3C 09 00 01 FF 00", Reserved, hex "09 00 01 FF")
     -- with and without a value; octets after End are ignored
-    ∷ ("80 39 00 08 03 00 02 00 00 00 00 01 0A 00 00 09 00 02 FF FE 00 09 00 01 FF 00", State, shown "0A 00 00 09 00 02 FF FE")
+    ∷ (hex "80 39 00 08 03 00 02 00 00 00 00 01 0A 00 00 09 00 02 FF FE 00 09 00 01 FF 00", State, hex "0A 00 00 09 00 02 FF FE")
     -- type 31 is unknown, and so is type 37 with another subtype, also twice
-    ∷ ("80 39 00 08 03 00 02 00 00 00 00 01 1F 00 01 41 00", State, shown "1F 00 01 41")
-    ∷ ("80 39 00 08 03 00 02 00 00 00 00 01 25 00 02 02 AA 25 00 01 02 00", State, shown "25 00 02 02 AA 25 00 01 02")
+    ∷ (hex "80 39 00 08 03 00 02 00 00 00 00 01 1F 00 01 41 00", State, hex "1F 00 01 41")
+    ∷ (hex "80 39 00 08 03 00 02 00 00 00 00 01 25 00 02 02 AA 25 00 01 02 00", State, hex "25 00 02 02 AA 25 00 01 02")
     ∷ []
 
 unknown-tlvs-are-copied-in-order :
-    map (λ row. (row .0, said Unicast (shown (row .0)), copiesOf (shown (row .0)))) copied ≡ copied
-unfolding said shown copiesOf unknown tlvOctets octets
+    map (λ row. (row .0, said Unicast (row .0), copiesOf (row .0))) copied ≡ copied
+unfolding said hex copiesOf isUnknown subtype unknowns tlvList tlvOctets octets
 unknown-tlvs-are-copied-in-order = refl

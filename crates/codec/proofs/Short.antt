@@ -49,5 +49,5 @@ unfolding copiesOf tlvsOf
 copies-short whom to pdu h =
     let f : Formed whom to pdu = formed whom to pdu h in
     let far : 8 ≤ offsetOf pdu = offset-high pdu (f .offset) in
-    let whole : tlvsOf pdu .bad ≡ false = good-list (tlvsOf pdu) (f .list) .0 in
+    let whole : tlvsOf pdu .bad ≡ false = good-list (tlvsOf pdu) (f .list) in
     omega (arith, parse-short (drop (4 + offsetOf pdu) pdu) whole, far, length-drop (4 + offsetOf pdu) pdu)

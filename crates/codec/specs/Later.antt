@@ -3,8 +3,8 @@ use mathlib.Core.Path.{_≡_}
 use mathlib.Core.List.{List, _∷_, _++_}
 use Prim.Native.Nat.{ℕ, _+_, _*_, _%_, _<_, _≤_}
 use lib.ListN.{length}
-use Rattle.codec_tlvs.specs.Tlv.{Tlv}
-use Rattle.codec_tlvs.specs.Additions.{tlvList, AllWhole, Added}
+use Rattle.codec_tlvs.specs.Tlv.{Tlv, tlvList}
+use Rattle.codec_tlvs.specs.Additions.{AllWhole, Added}
 
 -- ---- a request by its parts
 

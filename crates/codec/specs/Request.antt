@@ -1,6 +1,6 @@
 -- "Requests at an MP": the PDU's octets, whom a request is for, and what it says.
 use mathlib.Core.List.{List, []}
-use mathlib.Core.Bool.{Bool, false, cond, _&&_, _||_, not}
+use mathlib.Core.Bool.{Bool, true, false, cond, _&&_, _||_, not}
 use Prim.Native.Nat.{ℕ, _+_, _-_, _/_, _%_}
 use lib.ListN.{length, drop, getD}
 use lib.Dec.{eqb, ltb, leb}
@@ -11,7 +11,7 @@ use Rattle.codec.specs.declared.Request.{Request}
 use Rattle.codec.specs.declared.Request.the-variants.{Malformed, Reserved, Activate, Deactivate, State}
 use Rattle.codec.specs.declared.Read.{Read}
 use Rattle.codec.specs.declared.Heading.{Heading}
-use Rattle.codec_tlvs.specs.Tlv.{Parsed, parse, timers, badList, unknown}
+use Rattle.codec_tlvs.specs.Tlv.{Parsed, parse, timers, badList, unknowns, tlvList}
 use Rattle.codec.specs.FrameSet.{destination, source, soam, pduOf}
 
 -- PDU octets, from 1
@@ -52,27 +52,31 @@ llr = 56
 unfoldable pub isRequest : ℕ → List ℕ → Bool
 isRequest taglen frame = soam taglen frame && eqb (opcodeOf (pduOf taglen frame)) llm
 
--- what is read, once, of a frame that has so many octets of tag
+-- what is read, once, of a frame that has so many octets of tag: its addresses, and of service OAM alone what its PDU says
 unfoldable pub headingOf : ℕ → List ℕ → Heading
 headingOf taglen frame =
-    record {
+    cond (soam taglen frame)
+    (record {
       destination = destination frame;
       source = source frame;
-      soam = soam taglen frame;
+      soam = true;
       request = isRequest taglen frame;
       level = levelOf (pduOf taglen frame);
       kind = typeOf (pduOf taglen frame);
-    }
+    })
+    (record { destination = destination frame; source = source frame; soam = false; request = false; level = 0; kind = 0 })
 
 -- 01-80-C2-00-00-38 plus the level
 unfoldable pub class2 : ℕ → ℕ
 class2 level = 0x0180C2000038 + level
 
 -- Its destination is the port address, or is the level's group address with message type 3 and a PDU of 12 octets or more.
+abbrev pub addressedBy : ℕ → ℕ → ℕ → ℕ → ℕ → Addressed
+addressedBy port to level kind n =
+    cond (eqb to port) Unicast (cond (eqb to (class2 level) && (eqb kind 3 && leb 12 n)) Multicast Elsewhere)
+
 unfoldable pub addressed : ℕ → ℕ → List ℕ → Addressed
-addressed port to pdu =
-    cond (eqb to port) Unicast
-    (cond (eqb to (class2 (levelOf pdu)) && (eqb (typeOf pdu) 3 && leb 12 (length pdu))) Multicast Elsewhere)
+addressed port to pdu = addressedBy port to (levelOf pdu) (typeOf pdu) (length pdu)
 
 -- a unicast request with Loopback Port MAC unlike the destination; a frame that is for nobody here is no request
 unfoldable pub wrongMac : Addressed → ℕ → List ℕ → Bool
@@ -103,7 +107,7 @@ requestOf whom to pdu =
 
 -- the unknown TLVs that its reply copies
 unfoldable pub copiesOf : List ℕ → List ℕ
-copiesOf pdu = unknown (tlvsOf pdu .tlvs)
+copiesOf pdu = tlvList (unknowns (tlvsOf pdu .tlvs))
 
 -- What is read of it: what it says, and how many octets its reply copies; of a malformed one, none.
 unfoldable pub readOf : Addressed → ℕ → List ℕ → Read

@@ -1,4 +1,4 @@
-// The message layer, read: a frame's place, the PDU of a request.
+// The message layer, read: a frame once, its sets, the PDU of a request.
 mod frame;
 mod pdu;
 mod requests;
@@ -40,7 +40,8 @@ pub enum Place {
     InSet(FrameSet, usize),
 }
 
-// What is read of a frame once: its addresses, whether it is service OAM and a request, and the level and the message type of its PDU.
+// What is read of a frame once: its addresses, and whether it is service OAM; of service OAM alone whether it is a request, and the
+// level and the message type of its PDU.
 pub struct Heading {
     pub destination: u64,
     pub source: u64,

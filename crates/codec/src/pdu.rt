@@ -1,12 +1,10 @@
 // "Requests at an MP": the PDU's octets, whom a request is for, and what it says.
 ghost use mathlib.Core.Path.{_≡_};
-ghost use mathlib.Core.Bool.{_&&_};
-ghost use mathlib.Core.List.{List};
-ghost use Prim.Native.Nat.{ℕ, _+_, _<_, _≤_};
+ghost use Prim.Native.Nat.{_+_, _<_, _≤_};
 ghost use lib.Dec.{eqb};
 ghost use lib.ListN.{length, getD};
 ghost use Rattle.codec.specs.FrameSet.{source};
-ghost use Rattle.codec.specs.Request.{llm, levelOf, opcodeOf, typeOf, headingOf, class2, addressed, wrongMac, wrongOffset, byType};
+ghost use Rattle.codec.specs.Request.{llm, levelOf, opcodeOf, typeOf, headingOf, class2, addressedBy, wrongMac, wrongOffset, byType};
 use crate::Addressed;
 use crate::Heading;
 use crate::Request;
@@ -50,14 +48,11 @@ fn type_of(pdu: &[u8]) -> u8
     octet_at(pdu, 4)
 }
 
-// Is it service OAM with the opcode of a request?
-fn is_request(soam: bool, pdu: &[u8]) -> bool
-    ensures { λ r. ⌜ r ≡ (soam && eqb (opcodeOf (now (pdu .entry))) llm) ⌝ }
+// Is its opcode that of a request?
+fn is_request(pdu: &[u8]) -> bool
+    ensures { λ r. ⌜ r ≡ eqb (opcodeOf (now (pdu .entry))) llm ⌝ }
 {
-    if soam {
-        return octet_at(pdu, 1) == LLM;
-    }
-    false
+    octet_at(pdu, 1) == LLM
 }
 
 // What is read, once, of a frame that has so many octets of tag. Its source has been read.
@@ -66,14 +61,24 @@ pub fn heading_of(taglen: usize, sender: u64, frame: &[u8]) -> Heading
     ensures { λ r. ⌜ (r ≡ headingOf taglen (now (frame .entry))) × (r .level < 8) ⌝ }
 {
     let pdu = 14 + taglen;
-    let soam = is_soam(taglen, frame);
+    let destination = destination_of(frame);
+    if is_soam(taglen, frame) {
+        return Heading {
+            destination,
+            source: sender,
+            soam: true,
+            request: is_request(&frame[pdu..]),
+            level: level_of(&frame[pdu..]),
+            kind: type_of(&frame[pdu..]),
+        };
+    }
     Heading {
-        destination: destination_of(frame),
+        destination,
         source: sender,
-        soam,
-        request: is_request(soam, &frame[pdu..]),
-        level: level_of(&frame[pdu..]),
-        kind: type_of(&frame[pdu..]),
+        soam: false,
+        request: false,
+        level: 0,
+        kind: 0,
     }
 }
 
@@ -88,8 +93,7 @@ fn class2_of(level: u8) -> u64
 // Whom a request with this heading and so many octets of PDU is for, at a port of this address.
 pub fn addressed_to(port: u64, h: Heading, n: usize) -> Addressed
     requires { ⌜ h .level < 8 ⌝ }
-    ensures { λ r. ⌜ ((pdu : List ℕ) → h .level ≡ levelOf pdu → h .kind ≡ typeOf pdu → n ≡ length pdu
-        → r ≡ addressed port (h .destination) pdu) ⌝ }
+    ensures { λ r. ⌜ r ≡ addressedBy port (h .destination) (h .level) (h .kind) n ⌝ }
 {
     if h.destination == port {
         return Addressed::Unicast;

@@ -12,7 +12,7 @@ use Rattle.octets.specs.Octets.{octets, over}
 use Rattle.octets.proofs.Over.{then-over}
 use Rattle.codec_replies.proofs.Lengths.{pdu-length}
 use Rattle.codec_replies.specs.declared.ReplyFields.{ReplyFields}
-use Rattle.codec_tlvs.specs.Tlv.{parse, unknown}
+use Rattle.codec_tlvs.specs.Tlv.{parse, unknowns, tlvList}
 use Rattle.codec.specs.Request.{offsetOf, tlvsOf, copiesOf}
 use Rattle.codec.specs.Request.{copied}
 use Rattle.codec_replies.specs.Reply.{flags, flagsBy, header, timerTlv, carriesTimer, timerPart, replyOf}
@@ -54,7 +54,7 @@ module _ (count : ℕ) (request : List ℕ) where
   none-copied o e = rw (eq-eqb _ _ e) (refl, refl)
 
   pub some-copied : {from : ℕ} → (count ≡ 0 → ⊥) → from ≡ 4 + offsetOf request
-      → copied count request ≡ unknown (parse (drop from request) .tlvs)
+      → copied count request ≡ tlvList (unknowns (parse (drop from request) .tlvs))
   unfolding copied copiesOf tlvsOf
   some-copied n e = rw (ne-eqb _ _ n, e)
 

@@ -1,49 +1,25 @@
 -- Unknown TLVs, and lists that unknown TLVs were added to.
-use mathlib.Core.Path.{_≡_, refl, sym}
+use mathlib.Core.Path.{_≡_, refl}
 use mathlib.Core.Bool.{Bool, true, false, cond, not, _&&_, _||_, false≢true}
-use mathlib.Core.List.{List, [], _∷_, _++_}
+use mathlib.Core.List.{List, _∷_}
 use lib.Dec.{eqb}
 use lib.ListN.{length}
 use Rattle.octets.specs.Lists.{some}
-use Rattle.codec_tlvs.specs.Tlv.{Tlv, subtype, isTimer, badTlv, timers, tlvOctets, unknown}
-use Rattle.codec_tlvs.specs.Additions.{tlvList, isUnknown, unknowns, Added, ended, kept, new}
-use Rattle.codec_tlvs.proofs.Short.{or-none}
+use Rattle.codec_tlvs.specs.Tlv.{Tlv, subtype, isTimer, badTlv, timers, isUnknown, unknowns}
+use Rattle.codec_tlvs.specs.Additions.{Added, ended, kept, new}
 
 -- an unknown TLV is no timer, and not bad
 unknown-only : (t : Tlv) → isUnknown t ≡ true → (isTimer t ≡ false) × (badTlv t ≡ false)
 unfolding badTlv isUnknown isTimer
-unknown-only t = go (eqb (t .kind) 37) (eqb (length (t .value)) 0) (eqb (subtype t) 1) (eqb (length (t .value)) 5)
+unknown-only t =
+    go (eqb (t .kind) 37) (eqb (t .kind) 0) (eqb (length (t .value)) 0) (eqb (subtype t) 1) (eqb (length (t .value)) 5)
   where
-    go : (k z s f : Bool) → (not k || (not z && not s)) ≡ true
+    go : (k e z s f : Bool) → cond k (not z && not s) (not e) ≡ true
         → ((k && s) ≡ false) × (((k && z) || ((k && s) && not f)) ≡ false)
-    go false z s f h = (refl, refl)
-    go true true s f h = absurd (false≢true h)
-    go true false true f h = absurd (false≢true h)
-    go true false false f h = (refl, refl)
-
--- of a TLV that is not bad, to be unknown is to be no timer
-unknown-or-timer : (t : Tlv) → badTlv t ≡ false → isUnknown t ≡ not (isTimer t)
-unfolding badTlv isUnknown isTimer
-unknown-or-timer t = go (eqb (t .kind) 37) (eqb (length (t .value)) 0) (eqb (subtype t) 1) (eqb (length (t .value)) 5)
-  where
-    go : (k z s f : Bool) → ((k && z) || ((k && s) && not f)) ≡ false → (not k || (not z && not s)) ≡ not (k && s)
-    go false z s f h = refl
-    go true true s f h = absurd (false≢true (sym h))
-    go true false s f h = refl
-
--- what is copied of a list without a bad TLV
-pub unknown-list : (ts : List Tlv) → some badTlv ts ≡ false → unknown ts ≡ tlvList (unknowns ts)
-unfolding some unknown unknowns tlvList
-unknown-list [] h = refl
-unknown-list (t ∷ ts) h =
-    let e : (badTlv t ≡ false) × (some badTlv ts ≡ false) = or-none (badTlv t) (some badTlv ts) h in
-    rw (unknown-or-timer t (e .0), unknown-list ts (e .1)) (go (isTimer t))
-  where
-    go : (b : Bool)
-        → cond b (tlvList (unknowns ts)) (tlvOctets t ++ tlvList (unknowns ts))
-        ≡ tlvList (cond (not b) (t ∷ unknowns ts) (unknowns ts))
-    go true = refl
-    go false = refl
+    go false e z s f h = (refl, refl)
+    go true e true s f h = absurd (false≢true h)
+    go true e false true f h = absurd (false≢true h)
+    go true e false false f h = (refl, refl)
 
 -- ---- added
 

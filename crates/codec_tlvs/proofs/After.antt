@@ -9,7 +9,7 @@ use lib.ListN.{length, take, drop, getD, length-append, length-drop}
 use lib.Seq.{take-append-le, drop-append-le}
 use borrow.Author.Tests.{le-leb, leb-true}
 use Rattle.octets.specs.Octets.{number}
-use Rattle.codec_tlvs.specs.Tlv.{Parsed, ended, cut, followed, walk, parse, timers, badList, unknown}
+use Rattle.codec_tlvs.specs.Tlv.{Parsed, ended, cut, followed, walk, parse, timers, badList, unknowns, tlvList}
 use Rattle.codec_tlvs.specs.Walk.{tlvOf, badSummary, summaryOf}
 use Rattle.codec_tlvs.specs.declared.Summary.{Summary}
 
@@ -65,7 +65,7 @@ unfolding summaryOf
 summary-bad p = flag (badList p) _ refl
 
 -- of a list that is not bad, the summary's `unknown` is the length of what is copied
-pub summary-unknown : (p : Parsed) → badList p ≡ false → summaryOf p .unknown ≡ length (unknown (p .tlvs))
+pub summary-unknown : (p : Parsed) → badList p ≡ false → summaryOf p .unknown ≡ length (tlvList (unknowns (p .tlvs)))
 unfolding summaryOf
 summary-unknown p h = rw h
 

@@ -7,32 +7,33 @@ use native.Mathlib.Omega.{arith}
 use lib.ListN.{length, take, drop, getD, length-append}
 use Rattle.octets.specs.Octets.{octets, over, splice}
 use Rattle.octets.proofs.Over.{splice-splice, splice-none, length-splice}
-use Rattle.codec_tlvs.specs.Tlv.{Tlv, Parsed, ended, cut, followed, parse, isTimer, tlvOctets, unknown}
+use Rattle.codec_tlvs.specs.Tlv.{Tlv, Parsed, ended, cut, followed, parse, isUnknown, unknowns, tlvOctets, tlvList}
 use Rattle.codec_tlvs.specs.Walk.{stepAt, tlvOf, kept}
 use Rattle.codec_tlvs.specs.declared.Step.the-variants.{Tlv as Found, End, Bad}
 use Rattle.codec_tlvs.proofs.Walk.{parse-at}
 
-pub kept-none : (kind : ℕ) (v : List ℕ) → isTimer (tlvOf kind v) ≡ true → kept kind v ≡ []
+pub kept-none : (kind : ℕ) (v : List ℕ) → isUnknown (tlvOf kind v) ≡ false → kept kind v ≡ []
 unfolding kept
 kept-none kind v e = rw e
 
--- the octets that are written for a TLV that is no timer: its type, the octets of its length, and its value
-pub kept-all : (kind : ℕ) (v : List ℕ) {size : List ℕ} → isTimer (tlvOf kind v) ≡ false → size ≡ octets 2 (length v)
+-- the octets that are written for an unknown TLV: its type, the octets of its length, and its value
+pub kept-all : (kind : ℕ) (v : List ℕ) {size : List ℕ} → isUnknown (tlvOf kind v) ≡ true → size ≡ octets 2 (length v)
     → kept kind v ≡ (kind ∷ getD size 0 0 ∷ getD size 1 0 ∷ []) ++ v
 unfolding kept tlvOctets octets
 kept-all kind v e z = rw (e, z)
 
-unknown-first : (t : Tlv) (p : Parsed) → unknown (followed t p .tlvs) ≡ kept (t .kind) (t .value) ++ unknown (p .tlvs)
-unfolding unknown kept followed
-unknown-first t p = go (isTimer t)
+unknown-first : (t : Tlv) (p : Parsed)
+    → tlvList (unknowns (followed t p .tlvs)) ≡ kept (t .kind) (t .value) ++ tlvList (unknowns (p .tlvs))
+unfolding unknowns tlvList kept followed
+unknown-first t p = go (isUnknown t) (unknowns (p .tlvs))
   where
-    go : (b : Bool) → cond b (unknown (p .tlvs)) (tlvOctets t ++ unknown (p .tlvs)) ≡ cond b [] (tlvOctets t) ++ unknown (p .tlvs)
-    go true = refl
-    go false = refl
+    go : (b : Bool) (us : List Tlv) → tlvList (cond b (t ∷ us) us) ≡ cond b (tlvOctets t) [] ++ tlvList us
+    go true us = refl
+    go false us = refl
 
 -- what is still to be copied at a place
 abbrev pub rest : List ℕ → ℕ → List ℕ
-rest l at = unknown (parse (drop at l) .tlvs)
+rest l at = tlvList (unknowns (parse (drop at l) .tlvs))
 
 -- at `at`, with n octets copied, `out` needs only the rest to be u over what it was
 pub record Copying (l u out₀ : List ℕ) (at n : ℕ) (out : List ℕ) : Type 0 where
@@ -68,11 +69,11 @@ module _ {l u out₀ : List ℕ} {at n : ℕ} {out : List ℕ} (c : Copying l u 
   end z = (omega (arith, c .count, ap length z), sym (splice-none n out) ∙ rw z at (c .list))
 
 pub none-at-end : (l : List ℕ) (at : ℕ) → stepAt l at ≡ End → rest l at ≡ []
-unfolding unknown ended
+unfolding unknowns tlvList ended
 none-at-end l at e = rw (parse-at l at, e)
 
 pub none-at-bad : (l : List ℕ) (at : ℕ) → stepAt l at ≡ Bad → rest l at ≡ []
-unfolding unknown cut
+unfolding unknowns tlvList cut
 none-at-bad l at e = rw (parse-at l at, e)
 
 -- ---- the state: the reader's place, how many octets were copied, and what `out` has

@@ -23,12 +23,13 @@ use denote.Slice.{ShrSlice}
 use denote.Steps.{only}
 use denote.Enum.Laws as EL
 use denote.Triple.Call.{calls-at-last}
+use Rattle.codec_tlvs.specs.Part.{Part}
 use Rattle.codec_tlvs.specs.Walk.{stepAt}
 use Rattle.codec_tlvs.specs.declared.Step.{Step}
 use Rattle.codec_tlvs.proofs.CallRules.{Answer, answered, calls-for}
 use Rattle.codec_tlvs.proofs.Held.{B, mach, sliced, Sliced, placed, Placed, lowers}
 use Rattle.codec_tlvs.proofs.Promised.{New, Next, Value, Moved, Readers}
-use Rattle.codec_tlvs.proofs.Questions.{Found, Handed, Token, to-new, asks-new, New-said, new-said}
+use Rattle.codec_tlvs.proofs.Questions.{Found, Token, to-new, asks-new, New-said, new-said}
 use Rattle.codec_tlvs.proofs.Questions.{to-next, asks-next, Next-said, next-said, to-value, asks-value, Value-said, value-said}
 use Rattle.codec_tlvs.proofs.Questions.{to-moved, asks-moved, Moved-said, moved-said}
 use Rattle.codec_tlvs.proofs.Step as S
@@ -75,13 +76,13 @@ module _ (κ : Lft) (s : RefT (List ℕ)) (q : Share) {M : Type 1} {𝓤 : URA M
   pub calls-value : K → {rest : Body} (p i n : ℕ) → p < 2 ^ 64 → i < 2 ^ 64 → n < 2 ^ 64 → i + n ≤ length (now s)
       → Opds K W (raw (Value 𝓤 H A mem run .pre (to-value κ s q 𝓤 H A W mem run p i n)) ∷ ‵ (Sliced κ s) ∷ Γ) E xs
       (mach (placed s p) ∷ vint w64 i ∷ vint w64 n ∷ [])
-      → ((w : RefT (List ℕ)) (u : Val) → Handed s i n w → Is (ShrSlice (named 0) κ u8) w (u ∷ [])
+      → ((w : RefT (List ℕ)) (u : Val) → Part s i n w → Is (ShrSlice (named 0) κ u8) w (u ∷ [])
       → Seq K W (‵ (ShrSlice (named 0) κ u8 .own w (u ∷ [])) ∷ Token κ q ∷ ‵ (Sliced κ s) ∷ Γ) (lands C Λ E d u rest Q))
       → Seq K W (Token κ q ∷ ‵ (Sliced κ s) ∷ Γ) (runs C Λ E (seq (call value-def.name xs d) rest) Q)
   calls-value t p i n fits i-fits n-fits inside os k =
       use2 W (raw (Value 𝓤 H A mem run .pre (to-value κ s q 𝓤 H A W mem run p i n)) ⊛ ‵ (Sliced κ s))
       (asks-value κ s q 𝓤 H A W mem run p i n fits i-fits n-fits inside) $ split t $
-      calls-for t fm (Value 𝓤 H A mem run) (known .value) (to-value κ s q 𝓤 H A W mem run p i n) (ShrSlice (named 0) κ u8) (Handed s i n)
+      calls-for t fm (Value 𝓤 H A mem run) (known .value) (to-value κ s q 𝓤 H A W mem run p i n) (ShrSlice (named 0) κ u8) (Part s i n)
       (Token κ q) (Value-said κ s q 𝓤 H A W mem run p i n) (λ u. id⊢ 𝓤 _) (value-said κ s q 𝓤 H A W mem run p i n) os k
 
   -- it is the last statement of a turn

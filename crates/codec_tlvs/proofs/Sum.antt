@@ -8,14 +8,14 @@ use native.Mathlib.Omega.{arith}
 use lib.Dec.{leb, eqb}
 use lib.ListN.{length, drop, getD, length-append}
 use lib.Seq.{append-snoc}
-use borrow.Author.Tests.{le-leb}
+use borrow.Author.Tests.{le-leb, eqb-true, ne-eqb}
 use Rattle.octets.specs.Octets.{number}
 use Rattle.octets.specs.Lists.{some}
-use Rattle.codec_tlvs.specs.Tlv.{Tlv, Parsed, subtype, isTimer, badTlv, timers, badList, tlvOctets, unknown}
+use Rattle.codec_tlvs.specs.Tlv.{Tlv, Parsed, subtype, isTimer, badTlv, timers, badList, isUnknown, unknowns, tlvList}
 use Rattle.codec_tlvs.specs.Walk.{timerOf, badSummary, summaryOf, withUnknown, withTimer, byTimer, count}
-use Rattle.codec_tlvs.specs.declared.Timer.the-variants.{Broken, Other, Seconds}
+use Rattle.codec_tlvs.specs.declared.Timer.the-variants.{Broken, Seconds}
 use Rattle.codec_tlvs.specs.declared.Summary.{Summary}
-use Rattle.codec_tlvs.proofs.Short.{tlv-length}
+use Rattle.codec_tlvs.proofs.Short.{list-length}
 
 -- a summary with a list's TLVs more, and that with a whole parse more
 abbrev pub countAll : Summary → List Tlv → Summary
@@ -31,10 +31,11 @@ emptySummary = record { bad = false; timed = false; seconds = 0; unknown = 0 }
 -- one TLV more, in the words of `Tlv`
 count-one : (s : Summary) (t : Tlv) → s .bad ≡ false
     → count s (t .kind) (t .value)
-    ≡ cond (badTlv t) badSummary (cond (isTimer t) (withTimer s (number 4 (drop 1 (t .value)))) (withUnknown s (length (t .value))))
-unfolding count timerOf badTlv isTimer subtype
+    ≡ cond (badTlv t) badSummary
+    (cond (isTimer t) (withTimer s (number 4 (drop 1 (t .value)))) (cond (isUnknown t) (withUnknown s (length (t .value))) s))
+unfolding count timerOf badTlv isTimer isUnknown
 count-one s t h =
-    go (s .bad) (eqb (t .kind) 37) (eqb len 0) (eqb (getD (t .value) 0 0) 1) (eqb len 5) h
+    go (s .bad) (eqb (t .kind) 37) (eqb (t .kind) 0) (eqb len 0) (eqb (subtype t) 1) (eqb len 5) h (λ e. ne-eqb len 5 (five e))
   where
     n : ℕ
     n = number 4 (drop 1 (t .value))
@@ -42,15 +43,20 @@ count-one s t h =
     len : ℕ
     len = length (t .value)
 
-    go : (a k z d f : Bool) → a ≡ false
-        → cond a s (cond k (byTimer s (t .value) (cond z Broken (cond d (cond f (Seconds n) Broken) Other))) (withUnknown s len))
-        ≡ cond (k && z || k && d && not f) badSummary (cond (k && d) (withTimer s n) (withUnknown s len))
-    go true k z d f e = absurd (false≢true (sym e))
-    go false false z d f e = refl
-    go false true true d f e = refl
-    go false true false false f e = refl
-    go false true false true false e = refl
-    go false true false true true e = refl
+    five : eqb len 0 ≡ true → len ≡ 5 → ⊥
+    five z f = omega (arith, eqb-true len 0 z)
+
+    go : (a k e z d f : Bool) → a ≡ false → (z ≡ true → f ≡ false)
+        → cond a s
+        (cond (cond k (not z && not d) (not e)) (withUnknown s len) (cond k (byTimer s (cond f (Seconds n) Broken)) s))
+        ≡ cond (k && z || k && d && not f) badSummary
+        (cond (k && d) (withTimer s n) (cond (cond k (not z && not d) (not e)) (withUnknown s len) s))
+    go true k e z d f h short = absurd (false≢true (sym h))
+    go false false e z d f h short = refl
+    go false true e true d f h short = rw (short refl)
+    go false true e false false f h short = refl
+    go false true e false true false h short = refl
+    go false true e false true true h short = refl
 
 -- the summary of what was met: these timers, and so many octets of unknown TLVs
 so-far : List ℕ → ℕ → Summary
@@ -76,38 +82,51 @@ bad-all (t ∷ ts) = bad-all ts
 
 one-more : (l : List ℕ) (u : ℕ) (t : Tlv) → count (so-far l u) (t .kind) (t .value)
     ≡ cond (badTlv t) badSummary
-    (cond (isTimer t) (so-far (l ++ (number 4 (drop 1 (t .value)) ∷ [])) u) (so-far l (u + 3 + length (t .value))))
+    (cond (isTimer t) (so-far (l ++ (number 4 (drop 1 (t .value)) ∷ [])) u)
+    (cond (isUnknown t) (so-far l (u + 3 + length (t .value))) (so-far l u)))
 unfolding so-far
 one-more [] u t = count-one (so-far [] u) t refl
 one-more (x ∷ []) u t = count-one (so-far (x ∷ []) u) t refl
 one-more (x ∷ y ∷ l) u t =
     rw (many x y l u, many x y (l ++ (number 4 (drop 1 (t .value)) ∷ [])) u, many x y l (u + 3 + length (t .value)))
-    (bad-one t ∙ sym (rw (cond-same (isTimer t) badSummary) (cond-same (badTlv t) badSummary)))
+    (bad-one t ∙
+    sym (rw (cond-same (isUnknown t) badSummary, cond-same (isTimer t) badSummary) (cond-same (badTlv t) badSummary)))
+
+timer-known : (t : Tlv) → isTimer t ≡ true → isUnknown t ≡ false
+unfolding isTimer isUnknown
+timer-known t = go (eqb (t .kind) 37) (eqb (length (t .value)) 0) (eqb (subtype t) 1)
+  where
+    go : (k z s : Bool) → (k && s) ≡ true → cond k (not z && not s) (not (eqb (t .kind) 0)) ≡ false
+    go false z s h = absurd (false≢true h)
+    go true true s h = refl
+    go true false s h = rw h
 
 -- a list's TLVs more, whatever was met before
 abbrev AllMore : List Tlv → Type 0
 AllMore ts =
     (l : List ℕ) (u : ℕ)
-    → countAll (so-far l u) ts ≡ cond (some badTlv ts) badSummary (so-far (l ++ timers ts) (u + length (unknown ts)))
+    → countAll (so-far l u) ts ≡ cond (some badTlv ts) badSummary (so-far (l ++ timers ts) (u + length (tlvList (unknowns ts))))
 
 all-more : (ts : List Tlv) → AllMore ts
-unfolding some timers unknown
+unfolding some timers unknowns tlvList
 all-more [] l u = rw (append-nil, add-zero)
-all-more (t ∷ ts) l u = rw (one-more l u t) (go (all-more ts) (badTlv t) (isTimer t))
+all-more (t ∷ ts) l u = rw (one-more l u t) (go (all-more ts) (badTlv t) (isTimer t) (isUnknown t) (timer-known t))
   where
     n : ℕ
     n = number 4 (drop 1 (t .value))
 
-    long : u + length (tlvOctets t ++ unknown ts) ≡ u + 3 + length (t .value) + length (unknown ts)
-    long = omega (arith, tlv-length t, length-append (tlvOctets t) (unknown ts))
+    long : u + length (tlvList (t ∷ unknowns ts)) ≡ u + 3 + length (t .value) + length (tlvList (unknowns ts))
+    long = omega (arith, list-length t (unknowns ts))
 
-    go : AllMore ts → (b i : Bool)
-        → countAll (cond b badSummary (cond i (so-far (l ++ (n ∷ [])) u) (so-far l (u + 3 + length (t .value))))) ts
+    go : AllMore ts → (b i w : Bool) → (i ≡ true → w ≡ false)
+        → countAll
+        (cond b badSummary (cond i (so-far (l ++ (n ∷ [])) u) (cond w (so-far l (u + 3 + length (t .value))) (so-far l u)))) ts
         ≡ cond (b || some badTlv ts) badSummary
-        (so-far (l ++ cond i (n ∷ timers ts) (timers ts)) (u + length (cond i (unknown ts) (tlvOctets t ++ unknown ts))))
-    go more true i = bad-all ts
-    go more false true = rw (← append-snoc l n (timers ts)) (more (l ++ (n ∷ [])) u)
-    go more false false = rw long (more l (u + 3 + length (t .value)))
+        (so-far (l ++ cond i (n ∷ timers ts) (timers ts)) (u + length (tlvList (cond w (t ∷ unknowns ts) (unknowns ts)))))
+    go more true i w known = bad-all ts
+    go more false true w known = rw (known refl, ← append-snoc l n (timers ts)) (more (l ++ (n ∷ [])) u)
+    go more false false true known = rw long (more l (u + 3 + length (t .value)))
+    go more false false false known = more l u
 
 -- the whole list
 pub sum-all : (p : Parsed) → sumUp emptySummary p ≡ summaryOf p
@@ -115,13 +134,13 @@ unfolding summaryOf badList so-far
 sum-all p = rw (all-more (p .tlvs) [] 0, zero-add) (go (p .bad) (some badTlv (p .tlvs)))
   where
     go : (a b : Bool)
-        → cond a badSummary (cond b badSummary (so-far (timers (p .tlvs)) (length (unknown (p .tlvs)))))
+        → cond a badSummary (cond b badSummary (so-far (timers (p .tlvs)) (length (tlvList (unknowns (p .tlvs))))))
         ≡ cond (a || b || leb 2 (length (timers (p .tlvs)))) badSummary
         (record {
           bad = false;
           timed = leb 1 (length (timers (p .tlvs)));
           seconds = getD (timers (p .tlvs)) 0 0;
-          unknown = length (unknown (p .tlvs));
+          unknown = length (tlvList (unknowns (p .tlvs)));
         })
     go true b = refl
     go false true = refl

@@ -9,11 +9,11 @@ use lib.ListN.{length, take, drop, length-take}
 use mir.Val.{Val}
 use denote.Laws.{Is}
 use denote.Struct.Laws as LL
-use Rattle.codec_tlvs.specs.Tlv.{Tlv, Parsed, ended, cut, followed, parse}
+use Rattle.codec_tlvs.specs.Tlv.{Tlv, Parsed, ended, cut, followed, parse, isUnknown}
 use Rattle.codec_tlvs.specs.Walk.{stepAt, timerOf, tlvOf, badSummary, summaryOf, withUnknown, byTimer, count}
 use Rattle.codec_tlvs.specs.declared.Step.the-variants.{Tlv as Found, End, Bad}
 use Rattle.codec_tlvs.specs.declared.Timer.{Timer}
-use Rattle.codec_tlvs.specs.declared.Timer.the-variants.{Broken, Other, Seconds}
+use Rattle.codec_tlvs.specs.declared.Timer.the-variants.{Broken, Seconds}
 use Rattle.codec_tlvs.specs.declared.Summary.{Summary}
 use Rattle.codec_tlvs.proofs.Walk.{parse-at, stood}
 use Rattle.codec_tlvs.proofs.Sum.{sumUp, emptySummary, sum-all}
@@ -41,7 +41,7 @@ module _ (l : List ℕ) (at : ℕ) (s : Summary) where
 -- one TLV adds at most its own octets
 count-unknown : (s : Summary) (kind : ℕ) (v : List ℕ) → count s kind v .unknown ≤ s .unknown + 3 + length v
 unfolding count
-count-unknown s kind v = go (s .bad) (eqb kind 37) (timerOf v)
+count-unknown s kind v = go (s .bad) (isUnknown (tlvOf kind v)) (eqb kind 37) (timerOf v)
   where
     timer : (n : ℕ) (b : Bool)
         → cond b badSummary (record { bad = s .bad; timed = true; seconds = n; unknown = s .unknown }) .unknown
@@ -49,13 +49,13 @@ count-unknown s kind v = go (s .bad) (eqb kind 37) (timerOf v)
     timer n true = omega arith
     timer n false = omega arith
 
-    go : (a b : Bool) (t : Timer)
-        → cond a s (cond b (byTimer s v t) (withUnknown s (length v))) .unknown ≤ s .unknown + 3 + length v
-    go true b t = omega arith
-    go false false t = omega arith
-    go false true Broken = omega arith
-    go false true Other = omega arith
-    go false true (Seconds n) = timer n (s .timed)
+    go : (a w b : Bool) (t : Timer)
+        → cond a s (cond w (withUnknown s (length v)) (cond b (byTimer s t) s)) .unknown ≤ s .unknown + 3 + length v
+    go true w b t = omega arith
+    go false true b t = omega arith
+    go false false false t = omega arith
+    go false false true Broken = omega arith
+    go false false true (Seconds n) = timer n (s .timed)
 
 -- the same of a part of the PDU
 pub grown : (s : Summary) {r : Summary} (kind : ℕ) {m n : ℕ} (start : ℕ) (l : List ℕ) → m ≡ n

@@ -12,9 +12,9 @@ use borrow.Author.Tests.{ne-eqb, le-leb, eqb-true, eqb-false, leb-true}
 use Rattle.octets.specs.Octets.{number, octets}
 use Rattle.octets.proofs.Laws.{Octets}
 use Rattle.octets.proofs.Round.{number-octets, number-fits, octets-number}
-use Rattle.codec_tlvs.specs.Tlv.{Tlv, Parsed, ended, cut, followed, walk, parse, tlvOctets}
+use Rattle.codec_tlvs.specs.Tlv.{Tlv, Parsed, ended, cut, followed, walk, parse, tlvOctets, tlvList}
 use Rattle.codec_tlvs.specs.Walk.{tlvOf}
-use Rattle.codec_tlvs.specs.Additions.{Whole, AllWhole, tlvList}
+use Rattle.codec_tlvs.specs.Additions.{Whole, AllWhole}
 use Rattle.codec_tlvs.proofs.Walk.{walk-drop}
 
 tlv-read : (t : Tlv) (l : List ℕ) → Whole t → parse (tlvOctets t ++ l) ≡ followed t (parse l)

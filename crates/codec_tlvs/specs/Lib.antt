@@ -1,3 +1,4 @@
+pub mod Part
 pub mod Tlv
 pub mod Walk
 pub mod Additions

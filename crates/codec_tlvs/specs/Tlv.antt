@@ -60,11 +60,20 @@ timers (t ∷ ts) = cond (isTimer t) (number 4 (drop 1 (t .value)) ∷ timers ts
 unfoldable pub badList : Parsed → Bool
 badList p = p .bad || some badTlv (p .tlvs) || leb 2 (length (timers (p .tlvs)))
 
+-- Every other TLV is unknown: types other than 0 and 37, and type 37 with a subtype other than 1.
+unfoldable pub isUnknown : Tlv → Bool
+isUnknown t = cond (eqb (t .kind) 37) (not (eqb (length (t .value)) 0) && not (eqb (subtype t) 1)) (not (eqb (t .kind) 0))
+
+-- the unknown TLVs, in order
+unfoldable pub unknowns : List Tlv → List Tlv
+unknowns [] = []
+unknowns (t ∷ ts) = cond (isUnknown t) (t ∷ unknowns ts) (unknowns ts)
+
 -- a TLV's own octets
 unfoldable pub tlvOctets : Tlv → List ℕ
 tlvOctets t = t .kind ∷ octets 2 (length (t .value)) ++ t .value
 
--- Every other TLV is unknown: their octets, in order.
-unfoldable pub unknown : List Tlv → List ℕ
-unknown [] = []
-unknown (t ∷ ts) = cond (isTimer t) (unknown ts) (tlvOctets t ++ unknown ts)
+-- the octets of a list of TLVs, without an End
+unfoldable pub tlvList : List Tlv → List ℕ
+tlvList [] = []
+tlvList (t ∷ ts) = tlvOctets t ++ tlvList ts

@@ -9,9 +9,9 @@ use Rattle.octets.specs.Octets.{number}
 use Rattle.codec_tlvs.specs.declared.Step.{Step}
 use Rattle.codec_tlvs.specs.declared.Step.the-variants.{Tlv as Found, End, Bad}
 use Rattle.codec_tlvs.specs.declared.Timer.{Timer}
-use Rattle.codec_tlvs.specs.declared.Timer.the-variants.{Broken, Other, Seconds}
+use Rattle.codec_tlvs.specs.declared.Timer.the-variants.{Broken, Seconds}
 use Rattle.codec_tlvs.specs.declared.Summary.{Summary}
-use Rattle.codec_tlvs.specs.Tlv.{Tlv, Parsed, isTimer, timers, badList, tlvOctets, unknown}
+use Rattle.codec_tlvs.specs.Tlv.{Tlv, Parsed, isUnknown, unknowns, timers, badList, tlvOctets, tlvList}
 
 -- What stands at a place: a TLV with its type, the start and the length of its value, and the place behind it; the End; or nothing
 -- that fits in the PDU.
@@ -24,18 +24,16 @@ stepAt l at =
     Bad))
     Bad
 
--- What a value of type 37 says: an empty one is broken, and so is subtype 1 with another length than 5.
+-- What the value of a timer says: one of another length than 5 is broken. (So is an empty value of type 37.)
 unfoldable pub timerOf : List ℕ → Timer
-timerOf value =
-    cond (eqb (length value) 0) Broken
-    (cond (eqb (getD value 0 0) 1) (cond (eqb (length value) 5) (Seconds (number 4 (drop 1 value))) Broken) Other)
+timerOf value = cond (eqb (length value) 5) (Seconds (number 4 (drop 1 value))) Broken
 
 abbrev pub tlvOf : ℕ → List ℕ → Tlv
 tlvOf kind value = record { kind = kind; value = value }
 
 -- the octets that a TLV adds to what is copied
 unfoldable pub kept : ℕ → List ℕ → List ℕ
-kept kind value = cond (isTimer (tlvOf kind value)) [] (tlvOctets (tlvOf kind value))
+kept kind value = cond (isUnknown (tlvOf kind value)) (tlvOctets (tlvOf kind value)) []
 
 -- the summary of every bad list
 abbrev pub badSummary : Summary
@@ -49,7 +47,7 @@ summaryOf p =
       bad = false;
       timed = leb 1 (length (timers (p .tlvs)));
       seconds = getD (timers (p .tlvs)) 0 0;
-      unknown = length (unknown (p .tlvs));
+      unknown = length (tlvList (unknowns (p .tlvs)));
     })
 
 -- a summary with an unknown TLV more, whose value has that length
@@ -60,12 +58,12 @@ withUnknown s n = record { bad = s .bad; timed = s .timed; seconds = s .seconds;
 abbrev pub withTimer : Summary → ℕ → Summary
 withTimer s n = cond (s .timed) badSummary (record { bad = s .bad; timed = true; seconds = n; unknown = s .unknown })
 
-abbrev pub byTimer : Summary → List ℕ → Timer → Summary
-byTimer s value Broken = badSummary
-byTimer s value Other = withUnknown s (length value)
-byTimer s value (Seconds n) = withTimer s n
+abbrev pub byTimer : Summary → Timer → Summary
+byTimer s Broken = badSummary
+byTimer s (Seconds n) = withTimer s n
 
--- a summary with one TLV more
+-- a summary with one TLV more; type 0 adds nothing
 unfoldable pub count : Summary → ℕ → List ℕ → Summary
 count s kind value =
-    cond (s .bad) s (cond (eqb kind 37) (byTimer s value (timerOf value)) (withUnknown s (length value)))
+    cond (s .bad) s
+    (cond (isUnknown (tlvOf kind value)) (withUnknown s (length value)) (cond (eqb kind 37) (byTimer s (timerOf value)) s))

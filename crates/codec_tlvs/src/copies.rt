@@ -3,35 +3,19 @@ ghost use mathlib.Core.Path.{_≡_};
 ghost use Prim.Native.Nat.{_+_, _≤_};
 ghost use lib.ListN.{length, drop};
 ghost use Rattle.octets.specs.Octets.{over, splice};
-ghost use Rattle.codec_tlvs.specs.Tlv.{parse, isTimer, unknown};
-ghost use Rattle.codec_tlvs.specs.Walk.{tlvOf, kept};
+ghost use Rattle.codec_tlvs.specs.Tlv.{parse, unknowns, tlvList};
+ghost use Rattle.codec_tlvs.specs.Walk.{kept};
 use crate::Step;
+use crate::kinds::is_unknown;
 use crate::readers::TlvReader;
-use crate::words::TIMER;
-use crate::words::TIMER_SUBTYPE;
 
-fn is_timer(kind: u8, value: &[u8]) -> bool
-    ensures { λ r. ⌜ r ≡ isTimer (tlvOf kind (now (value .entry))) ⌝ }
-{
-    if kind != TIMER {
-        return false;
-    }
-    if value.len() == 0 {
-        return false;
-    }
-    if value[0] != TIMER_SUBTYPE {
-        return false;
-    }
-    true
-}
-
-// Copies a TLV to a place of out, unless it is a timer, and answers the place behind the copy.
+// Copies a TLV to a place of out if it is unknown, and answers the place behind the copy.
 fn copy_one(out: &mut [u8], n: usize, kind: u8, value: &[u8]) -> usize
     requires { ⌜ n + length (kept kind (now value)) ≤ length (now out) ⌝ }
     ensures { λ r. ⌜ (r ≡ n + length (kept kind (now (value .entry))))
         × (now (out .exit) ≡ splice n (kept kind (now (value .entry))) (now (out .entry))) ⌝ }
 {
-    if is_timer(kind, value) {
+    if !is_unknown(kind, value) {
         return n;
     }
     let size = octets::octets2(value.len());
@@ -43,9 +27,9 @@ fn copy_one(out: &mut [u8], n: usize, kind: u8, value: &[u8]) -> usize
 
 // Copies the unknown TLVs of the list that starts at a place of the PDU, in order, to the front of out, and answers their length.
 pub fn copy_unknown(out: &mut [u8], pdu: &[u8], from: usize) -> usize
-    requires { ⌜ length (unknown (parse (drop from (now pdu)) .tlvs)) ≤ length (now out) ⌝ }
-    ensures { λ r. ⌜ (r ≡ length (unknown (parse (drop from (now (pdu .entry))) .tlvs)))
-        × (now (out .exit) ≡ over (unknown (parse (drop from (now (pdu .entry))) .tlvs)) (now (out .entry))) ⌝ }
+    requires { ⌜ length (tlvList (unknowns (parse (drop from (now pdu)) .tlvs))) ≤ length (now out) ⌝ }
+    ensures { λ r. ⌜ (r ≡ length (tlvList (unknowns (parse (drop from (now (pdu .entry))) .tlvs))))
+        × (now (out .exit) ≡ over (tlvList (unknowns (parse (drop from (now (pdu .entry))) .tlvs))) (now (out .entry))) ⌝ }
 {
     let mut r = TlvReader::new(pdu, from);
     let mut n = 0;

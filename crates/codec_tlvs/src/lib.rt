@@ -1,5 +1,6 @@
 // The message layer's TLV lists, walked where they lie: what stands at a place, what a list comes to, and the copy of what is unknown.
 mod copies;
+mod kinds;
 mod readers;
 mod steps;
 mod summaries;
@@ -20,10 +21,9 @@ pub enum Step {
     Bad,
 }
 
-// What a value of type 37 says: it makes the list bad, is no timer, or is the timer with its seconds.
+// What the value of a timer says: it makes the list bad, or it has the seconds.
 pub enum Timer {
     Broken,
-    Other,
     Seconds(u32),
 }
 

@@ -2,7 +2,8 @@
 // one of a slice and a place.
 ghost use mathlib.Core.Path.{_≡_};
 ghost use Prim.Native.Nat.{_+_, _≤_};
-ghost use lib.ListN.{length, take, drop};
+ghost use lib.ListN.{length};
+ghost use Rattle.codec_tlvs.specs.Part.{Part};
 ghost use Rattle.codec_tlvs.specs.Walk.{stepAt};
 use crate::Step;
 use crate::steps::tlv_at;
@@ -31,7 +32,7 @@ impl<'a> TlvReader<'a> {
     // A value, as the part of the PDU that starts there and has that length.
     pub fn value(self, start: usize, len: usize) -> &'a [u8]
         requires { ⌜ start + len ≤ length (now (self .pdu)) ⌝ }
-        ensures { λ v. ⌜ now v ≡ take len (drop start (now (self .entry .pdu))) ⌝ }
+        ensures { λ v. ⌜ Part (self .entry .pdu) start len v ⌝ }
     {
         value_at(self.pdu, start, len)
     }

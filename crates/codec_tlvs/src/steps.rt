@@ -1,7 +1,8 @@
 // What stands at a place of a TLV list.
 ghost use mathlib.Core.Path.{_≡_};
 ghost use Prim.Native.Nat.{_+_, _≤_};
-ghost use lib.ListN.{length, take, drop};
+ghost use lib.ListN.{length};
+ghost use Rattle.codec_tlvs.specs.Part.{Part};
 ghost use Rattle.codec_tlvs.specs.Walk.{stepAt};
 use crate::Step;
 
@@ -31,7 +32,7 @@ pub fn tlv_at(pdu: &[u8], at: usize) -> Step
 // A part of the PDU, where it lies.
 pub fn value_at<'a>(pdu: &'a [u8], start: usize, len: usize) -> &'a [u8]
     requires { ⌜ start + len ≤ length (now pdu) ⌝ }
-    ensures { λ v. ⌜ now v ≡ take len (drop start (now (pdu .entry))) ⌝ }
+    ensures { λ v. ⌜ Part (pdu .entry) start len v ⌝ }
 {
     &pdu[start..start + len]
 }

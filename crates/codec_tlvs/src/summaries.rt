@@ -7,20 +7,14 @@ ghost use Rattle.codec_tlvs.specs.Walk.{timerOf, badSummary, summaryOf, 
 use crate::Step;
 use crate::Summary;
 use crate::Timer;
+use crate::kinds::is_unknown;
 use crate::readers::TlvReader;
 use crate::words::TIMER;
 use crate::words::TIMER_LENGTH;
-use crate::words::TIMER_SUBTYPE;
 
 fn timer_of(value: &[u8]) -> Timer
     ensures { λ r. ⌜ r ≡ timerOf (now (value .entry)) ⌝ }
 {
-    if value.len() == 0 {
-        return Timer::Broken;
-    }
-    if value[0] != TIMER_SUBTYPE {
-        return Timer::Other;
-    }
     if value.len() != TIMER_LENGTH {
         return Timer::Broken;
     }
@@ -73,12 +67,14 @@ fn counted(s: Summary, kind: u8, value: &[u8]) -> Summary
     if s.bad {
         return s;
     }
-    if kind != TIMER {
+    if is_unknown(kind, value) {
         return with_unknown(s, value.len());
+    }
+    if kind != TIMER {
+        return s; // End
     }
     match timer_of(value) {
         Timer::Broken => bad_summary(),
-        Timer::Other => with_unknown(s, value.len()),
         Timer::Seconds(n) => with_timer(s, n),
     }
 }

@@ -35,7 +35,7 @@ by-mp keys w set a Elsewhere h = absurd (false≢true h)
 by-mp keys w set a Unicast h = refl
 by-mp keys w set a Multicast h = refl
 
-own-becomes : (w : World) (set : FrameSet) (a : Arrived) (m : Machine) → own (ownBecomes w set a m) set a ≡ m
+pub own-becomes : (w : World) (set : FrameSet) (a : Arrived) (m : Machine) → own (ownBecomes w set a m) set a ≡ m
 unfolding own become sameSet
 own-becomes w set a m =
     rw (

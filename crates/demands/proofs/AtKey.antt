@@ -13,7 +13,8 @@ use Rattle.plan.proofs.Found.{flow-found}
 use Rattle.state.proofs.Rules.{Valid, valid-parts}
 use Rattle.demands.specs.Machine.{Machine, nothing, prohibited}
 use Rattle.demands.specs.World.{World, atFlow, flowOf, sourceOf, at}
-use Rattle.demands.proofs.Shows.{resting, machineBy, machineIn, machineOn, machineAt, SmallSet, Shows}
+use Rattle.demands.specs.Shown.{resting, machineBy, machineIn, machineOn, machineAt}
+use Rattle.demands.proofs.Shows.{SmallSet, Shows}
 use Rattle.state.proofs.OwedRow.{by-test}
 use Rattle.demands.proofs.Lists.{look-absent, look-told}
 use Rattle.demands.proofs.Passers.{passesAt}

@@ -14,7 +14,8 @@ use Rattle.state.specs.State.{State, withSessions, isAllowed, valid}
 use Rattle.state.proofs.Rules.{valid-parts}
 use Rattle.demands.specs.Machine.{Machine}
 use Rattle.demands.specs.World.{World, sameSet, become}
-use Rattle.demands.proofs.Shows.{machineIn, machineOn, machineAt, SmallSet, Shows}
+use Rattle.demands.specs.Shown.{machineIn, machineOn, machineAt}
+use Rattle.demands.proofs.Shows.{SmallSet, Shows}
 use Rattle.state.proofs.OwedRow.{by-test}
 use Rattle.demands.proofs.SetsApart.{same-told, sets-apart}
 use Rattle.demands.proofs.Keys.{key-flow, key-source}

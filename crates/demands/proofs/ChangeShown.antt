@@ -18,7 +18,8 @@ use Rattle.octets.proofs.ListLaws.{none-fails}
 use Rattle.calls_requests.proofs.Changes.{Fitting, Puts}
 use Rattle.demands.specs.Machine.{Machine, nothing}
 use Rattle.demands.specs.World.{World, become}
-use Rattle.demands.proofs.Shows.{Shows, resting, machineBy, machineIn}
+use Rattle.demands.specs.Shown.{resting, machineBy, machineIn}
+use Rattle.demands.proofs.Shows.{Shows}
 use Rattle.demands.proofs.SessionsShown.{machine-put, machine-without}
 use Rattle.demands.proofs.MachineShown.{shown, open-shown}
 use Rattle.demands.proofs.Become.{become-shown}

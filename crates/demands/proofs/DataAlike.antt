@@ -18,7 +18,8 @@ use Rattle.calls.specs.Frame.{Arrived, pdu, own, ownAction, byFate, dataServed}
 use Rattle.demands.specs.Machine.{fate}
 use Rattle.demands.specs.World.{World}
 use Rattle.demands.specs.Frame.{own as ownIn, byFate as byFateIn, dataServed as dataServedIn}
-use Rattle.demands.proofs.Shows.{Shows, Alike, leaves-alike, sends-alike, resting}
+use Rattle.demands.specs.Shown.{resting}
+use Rattle.demands.proofs.Shows.{Shows, Alike, leaves-alike, sends-alike}
 use Rattle.demands.proofs.MachineShown.{shown}
 use Rattle.demands.proofs.OwnShown.{OfFlow, own-shown, active-may}
 

@@ -21,7 +21,8 @@ use Rattle.state.proofs.Rules.{valid-parts}
 use Rattle.calls.proofs.Flags.{flagged, some-flow}
 use Rattle.demands.specs.Machine.{Machine, nothing, prohibited}
 use Rattle.demands.specs.World.{World, sameSet, ofFlow}
-use Rattle.demands.proofs.Shows.{machineOn, machineAt, SmallSet, Shows}
+use Rattle.demands.specs.Shown.{machineOn, machineAt}
+use Rattle.demands.proofs.Shows.{SmallSet, Shows}
 use Rattle.demands.proofs.Flows.{flowSet, set-small, numbered-again}
 use Rattle.demands.proofs.SetsApart.{same-set, sets-apart}
 

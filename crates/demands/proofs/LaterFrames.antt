@@ -15,11 +15,10 @@ use Rattle.codec.specs.declared.Addressed.the-variants.{Elsewhere, Unicast, Mul
 use Rattle.codec.specs.declared.Request.the-variants.{Malformed, Reserved, Activate, Deactivate, State as StateRequest}
 use Rattle.codec.specs.FrameSet.{destination, source, only, setsOf}
 use Rattle.codec.specs.Request.{levelOf, typeOf, isRequest, malformed, requestOf, byType, copiesOf}
-use Rattle.codec_tlvs.specs.Tlv.{Tlv}
-use Rattle.codec_tlvs.specs.Additions.{tlvList, unknowns}
+use Rattle.codec_tlvs.specs.Tlv.{Tlv, unknowns, tlvList}
 use Rattle.codec.specs.Later.{Parts, pduIn, Laid, LaterParts}
 use Rattle.codec.proofs.LaterRead.{opcode-is, long, copies-are}
-use Rattle.codec.proofs.LaterLaws.{later-level, later-type, later-addressed, later-formed, later-request}
+use Rattle.codec.proofs.LaterLaws.{later-level, later-type, later-addressed, later-request}
 use Rattle.codec_replies.specs.Reply.{tagOf}
 use Rattle.plan.specs.Plan.{portNumbered}
 use Rattle.calls.specs.Frame.{Arrived, arrivedAt, pdu, mpOf, forMp, goesOn}
@@ -154,6 +153,6 @@ module _ (w : World) (port side taglen : ℕ) (set : FrameSet) (head : List ℕ)
         new-long = rw new-pdu (le-ltb (length (pduIn new)) 12 (long ln));
         request-same = rw (to, new-pdu, old-pdu) (later-request l lo ln (forMp a) (destination f) well);
         formed = not-bad;
-        old-copies = rw old-pdu (copies-are lo (forMp a) (destination f) well);
-        new-copies = rw new-pdu (copies-are ln (forMp a) (destination f) (later-formed l lo ln (forMp a) (destination f) well));
+        old-copies = rw old-pdu (copies-are lo);
+        new-copies = rw new-pdu (copies-are ln);
       }

@@ -4,8 +4,8 @@ use mathlib.Core.List.{List}
 use Prim.Native.Nat.{_+_, _≤_}
 use native.Mathlib.Omega.{arith}
 use lib.ListN.{length, length-append}
-use Rattle.codec_tlvs.specs.Tlv.{Tlv, tlvOctets}
-use Rattle.codec_tlvs.specs.Additions.{tlvList, Added, ended, kept, new}
+use Rattle.codec_tlvs.specs.Tlv.{Tlv, tlvOctets, tlvList}
+use Rattle.codec_tlvs.specs.Additions.{Added, ended, kept, new}
 use Rattle.codec.specs.Later.{Parts, pduIn, LaterParts}
 
 added-longer : {ts us : List Tlv} → Added ts us → length (tlvList ts) ≤ length (tlvList us)

@@ -15,7 +15,8 @@ use Rattle.state.proofs.Rules.{valid-parts}
 use Rattle.calls.proofs.SetFlows.{found-passes}
 use Rattle.demands.specs.Machine.{Owed, nothing, isActive, owedBy, isNotice, owes}
 use Rattle.demands.specs.World.{World, at, counted, least, fullFor, firstOwing, noticeDue}
-use Rattle.demands.proofs.Shows.{resting, machineBy, Shows}
+use Rattle.demands.specs.Shown.{resting, machineBy}
+use Rattle.demands.proofs.Shows.{Shows}
 use Rattle.demands.proofs.Below.{counted-same, least-none, least-one}
 use Rattle.state.proofs.OwedRow.{by-test, first-above}
 use Rattle.demands.proofs.Lists.{look-first}

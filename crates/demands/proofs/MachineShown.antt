@@ -13,7 +13,7 @@ use Rattle.machine.specs.Machine.{keyOf, isOpen, statusOf, secondsLeft}
 use Rattle.state.specs.State.{machineOf}
 use Rattle.demands.specs.Machine.{Machine as Shown, Owed, nothing, notice, prohibited, inactive, active, idle}
 use Rattle.demands.specs.Machine.{statusOf as statusIn}
-use Rattle.demands.proofs.Shows.{resting, tagIn, machineBy, machineIn}
+use Rattle.demands.specs.Shown.{resting, tagIn, machineBy, machineIn}
 
 module _ (may : Bool) where
   -- the world's machine for one of the unit's, where no notice is owed

@@ -15,7 +15,8 @@ use Rattle.calls.proofs.Flags.{flagged}
 use Rattle.calls.proofs.ManageValid.{withdrawn, allow-flagged, prohibit-flagged, withdrawn-key}
 use Rattle.demands.specs.Machine.{nothing, allowed, forbidden}
 use Rattle.demands.specs.World.{World, ofFlow}
-use Rattle.demands.proofs.Shows.{resting, tagIn, machineBy, machineIn, machineOn, Shows}
+use Rattle.demands.specs.Shown.{resting, tagIn, machineBy, machineIn, machineOn}
+use Rattle.demands.proofs.Shows.{Shows}
 use Rattle.demands.proofs.SessionsShown.{open-map}
 use Rattle.demands.proofs.FlowShown.{flag-own, flag-beside, flow-shown}
 

@@ -17,7 +17,8 @@ use Rattle.demands.specs.Machine.{Owed, nothing, notice, idle, taken}
 use Rattle.demands.specs.World.{World, become, flowOf, sourceOf, at, firstOwing}
 use Rattle.demands.specs.Frame.{sends}
 use Rattle.demands.specs.Calls.{noticed, noticeServed}
-use Rattle.demands.proofs.Shows.{resting, tagIn, machineBy, machineIn, machineOn, Shows, Alike}
+use Rattle.demands.specs.Shown.{resting, tagIn, machineBy, machineIn, machineOn}
+use Rattle.demands.proofs.Shows.{Shows, Alike}
 use Rattle.demands.proofs.Lists.{look-first}
 use Rattle.demands.proofs.Flows.{flowSet, set-small, numbered-again}
 use Rattle.demands.proofs.Keys.{key-flow, key-source, session-flow, session-source}

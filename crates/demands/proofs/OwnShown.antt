@@ -19,7 +19,8 @@ use Rattle.calls.specs.Frame.{Arrived, ownKey, own}
 use Rattle.calls_requests.proofs.Own.{Had, machine-had}
 use Rattle.demands.specs.World.{World}
 use Rattle.demands.specs.Frame.{own as ownIn}
-use Rattle.demands.proofs.Shows.{SmallSet, Shows, machineIn, machineOn, machineAt}
+use Rattle.demands.specs.Shown.{machineIn, machineOn, machineAt}
+use Rattle.demands.proofs.Shows.{SmallSet, Shows}
 use Rattle.demands.proofs.Keys.{open-allowed}
 use Rattle.demands.proofs.MachineShown.{shown, open-shown}
 

@@ -13,9 +13,8 @@ use Rattle.octets.proofs.Laws.{octets-length}
 use Rattle.octets.specs.Lists.{within}
 use Rattle.codec.specs.declared.Status.{Status}
 use Rattle.codec.specs.FrameSet.{external}
-use Rattle.codec_tlvs.specs.Tlv.{Tlv, tlvOctets}
+use Rattle.codec_tlvs.specs.Tlv.{Tlv, unknowns, tlvOctets, tlvList}
 use Rattle.codec_replies.specs.Reply.{activeFlags, flagsBy, flags, header, timerPart, replyPdu, replyFrame}
-use Rattle.codec_tlvs.specs.Additions.{tlvList, unknowns}
 use Rattle.demands.specs.LaterRuns.{copiedBit, Replies}
 
 bit-is : (ts : List Tlv) → cond (not (eqb (length (tlvList ts)) 0)) 4 0 ≡ copiedBit ts

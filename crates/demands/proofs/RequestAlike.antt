@@ -28,7 +28,8 @@ use Rattle.demands.specs.Machine.{Step, gets, isProhibited}
 use Rattle.demands.specs.World.{World, become, fullFor as fullForIn}
 use Rattle.demands.specs.Frame.{leaves as leavesIn, replied as repliedIn, stepped, answers as answersIn}
 use Rattle.demands.specs.Frame.{own as ownIn, requestServed as requestServedIn}
-use Rattle.demands.proofs.Shows.{Shows, Alike, leaves-alike, sends-alike, resting, tagIn}
+use Rattle.demands.specs.Shown.{resting, tagIn}
+use Rattle.demands.proofs.Shows.{Shows, Alike, leaves-alike, sends-alike}
 use Rattle.demands.proofs.MachineShown.{shown, status-same}
 use Rattle.demands.proofs.OwnShown.{OfFlow, own-at, own-shown, active-may}
 use Rattle.demands.proofs.ChangeShown.{change-shown}

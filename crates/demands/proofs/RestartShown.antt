@@ -2,11 +2,11 @@
 use mathlib.Core.Path.{_≡_, refl}
 use mathlib.Core.Bool.{Bool, true, false, cond}
 use mathlib.Core.List.{List, [], _∷_}
-use Prim.Native.Nat.{ℕ, zero, suc, _-_, _<_, _^_}
-use lib.ListN.{getD, replicate}
+use Prim.Native.Nat.{ℕ, _-_, _<_, _^_}
 use Rattle.octets.specs.Lists.{every}
 use Rattle.octets.proofs.Same.{both-true}
 use Rattle.octets.proofs.Cases.{by-eq}
+use Rattle.octets.proofs.ListLaws.{all-alike}
 use Rattle.codec.specs.declared.FrameSet.{FrameSet}
 use Rattle.machine.specs.declared.Session.{Session}
 use Rattle.machine.specs.Machine.{isOpen, key, keyOf, owed}
@@ -16,7 +16,8 @@ use Rattle.state.proofs.Rules.{valid-parts}
 use Rattle.calls.specs.Calls.{restartedAt}
 use Rattle.demands.specs.Machine.{Owed, nothing, notice, prohibited, active, restarted}
 use Rattle.demands.specs.World.{World, fresh, all}
-use Rattle.demands.proofs.Shows.{resting, tagIn, machineBy, machineIn, machineOn, machineAt, Shows}
+use Rattle.demands.specs.Shown.{resting, tagIn, machineBy, machineIn, machineOn, machineAt}
+use Rattle.demands.proofs.Shows.{Shows}
 use Rattle.demands.proofs.Keys.{open-allowed}
 
 module _ (s : State) (w : World) (clock : ℕ) (ok : valid s ≡ true) (shows : Shows s w) where
@@ -76,12 +77,7 @@ fresh-shown plan clock =
       machines = λ port set source set-small small. go port set source (inPlan (flowOfSet port set plan .number));
     }
   where
-    none : (k i : ℕ) → getD (replicate k false) i false ≡ false
-    none zero i = refl
-    none (suc k) zero = refl
-    none (suc k) (suc i) = none k i
-
     go : (port : ℕ) (set : FrameSet) (source : ℕ) (b : Bool)
         → prohibited nothing ≡ cond b (machineOn (made plan clock) (flowOfSet port set plan .number) source) (prohibited nothing)
-    go port set source true = rw (none 32 (flowOfSet port set plan .number - 1))
+    go port set source true = rw (all-alike false 32 (flowOfSet port set plan .number - 1))
     go port set source false = refl

@@ -20,7 +20,7 @@ use Rattle.demands.specs.Elapsed.{elapsedOver, leftAlone}
 use Rattle.demands.proofs.Seconds.{time-left, seconds-left}
 use Rattle.demands.proofs.Asked.{opened, state-says}
 
-active-free : {m : Machine} {level side left : ℕ} {tag : List ℕ} → m ≡ active level side left tag → isProhibited m ≡ false
+pub active-free : {m : Machine} {level side left : ℕ} {tag : List ℕ} → m ≡ active level side left tag → isProhibited m ≡ false
 unfolding isProhibited
 active-free e = rw e
 

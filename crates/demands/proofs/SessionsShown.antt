@@ -13,7 +13,7 @@ use Rattle.state.specs.State.{State, isAllowed, goodSession, noticeDue, valid}
 use Rattle.octets.proofs.ListLaws.{none-fails, every-both}
 use Rattle.state.proofs.Rules.{valid-parts}
 use Rattle.demands.specs.Machine.{Machine, nothing}
-use Rattle.demands.proofs.Shows.{resting, machineBy, machineIn}
+use Rattle.demands.specs.Shown.{resting, machineBy, machineIn}
 use Rattle.demands.proofs.Lists.{look, look-put, look-without}
 use Rattle.demands.proofs.Keys.{flow-of-key, open-allowed}
 

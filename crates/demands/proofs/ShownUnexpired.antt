@@ -17,7 +17,8 @@ use Rattle.calls.specs.Calls.{notice}
 use Rattle.calls.proofs.Standing.{good-parts, open-time}
 use Rattle.demands.specs.Machine.{Owed, nothing, notice as owing, prohibited, active}
 use Rattle.demands.specs.World.{World}
-use Rattle.demands.proofs.Shows.{resting, tagIn, machineBy, machineIn, machineOn, machineAt, SmallSet, Shows}
+use Rattle.demands.specs.Shown.{resting, tagIn, machineBy, machineIn, machineOn, machineAt}
+use Rattle.demands.proofs.Shows.{SmallSet, Shows}
 use Rattle.demands.proofs.TimeLeft.{Going}
 use Rattle.demands.proofs.TimeLeft.{either-going, going-left}
 

@@ -13,7 +13,7 @@ use Rattle.machine.specs.Table.{Event, rqst-activate, rqst-deactivate, rqst-sta
 use Rattle.machine.specs.Machine.{activity, lasting, goodSeconds, answered, admitted, sameMp, refreshed, restarted, closed}
 use Rattle.machine.specs.Machine.{decided, after}
 use Rattle.demands.specs.Machine.{Step, nothing, inactive, active, gets, activate, deactivate}
-use Rattle.demands.proofs.Shows.{resting, tagIn}
+use Rattle.demands.specs.Shown.{resting, tagIn}
 use Rattle.demands.proofs.MachineShown.{shown}
 
 -- what a decision is to the world's machine

@@ -15,7 +15,8 @@ use Rattle.calls.specs.Calls.{tickedTo}
 use Rattle.calls.proofs.TickValid.{ticked-key}
 use Rattle.demands.specs.Machine.{nothing, prohibited, ticked as passed}
 use Rattle.demands.specs.World.{World, all}
-use Rattle.demands.proofs.Shows.{resting, tagIn, machineBy, machineOn, machineAt, Shows}
+use Rattle.demands.specs.Shown.{resting, tagIn, machineBy, machineOn, machineAt}
+use Rattle.demands.proofs.Shows.{Shows}
 use Rattle.demands.proofs.SessionsShown.{open-map}
 
 passed-resting : (e : ℕ) (a : Bool) → passed e (resting a nothing) ≡ resting a nothing

@@ -58,8 +58,8 @@ module _ (keys : ℕ) (w : World) (g : AllGoing w) where
       (λ set taglen placed n.
       record {
         asked = become-going _ set _ _ (g _ set _);
-        activated = λ c seconds. become-going _ set _ _ (activate-going _ seconds _ _ _ _ (g _ set _));
-        deactivated = λ c. become-going _ set _ _ (deactivate-going _ _ _ (g _ set _));
+        activates = λ c seconds. become-going _ set _ _ (activate-going _ seconds _ _ _ _ (g _ set _));
+        deactivates = λ c. become-going _ set _ _ (deactivate-going _ _ _ (g _ set _));
       })
 
   other-going : (c : Call) → AllGoing (served keys w c .world) → AllGoing (call keys w c .world)

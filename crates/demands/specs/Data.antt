@@ -17,8 +17,8 @@ use Rattle.calls.specs.declared.Answer.the-variants.{Refused, Forwarded, Droppe
 use Rattle.calls.specs.declared.Answer.the-variants.{Noticed, Done, Faulty}
 use Rattle.calls.specs.Frame.{forMp}
 use Rattle.demands.specs.Machine.{Machine, prohibited, inactive, active}
-use Rattle.demands.specs.World.{World, sameSet}
-use Rattle.demands.specs.Frame.{isFor, arrived}
+use Rattle.demands.specs.World.{World, sameSet, fullFor}
+use Rattle.demands.specs.Frame.{Told, isFor, arrived}
 
 -- ---- a frame's own machine
 
@@ -56,6 +56,21 @@ pub record Carries (w : World) (port side : ℕ) (set : FrameSet) (taglen : ℕ)
   pub some-mp : isFor whom ≡ true
   pub long : 12 ≤ length (pduOf taglen f)
   pub request : requestOf whom (destination f) (pduOf taglen f) ≡ r
+
+-- Another world, where the unit is as full for the frame's flow if the frame is for an MP.
+abbrev pub AsFull : ℕ → World → ℕ → ℕ → FrameSet → ℕ → List ℕ → World → Type 0
+AsFull keys w port side set taglen f u =
+    isFor (forMp (arrived w port side set taglen f)) ≡ true
+    → fullFor keys (flowOfSet port set (w .plan)) u ≡ fullFor keys (flowOfSet port set (w .plan)) w
+
+-- Two answers to one frame, whose own machine is that of p, s and x: the same answer with the same octets, and the same own machine
+-- after it.
+pub record AnsweredAlike (p : ℕ) (s : FrameSet) (x : ℕ) (a b : Told) : Type 0 where
+  pub answer-same : a .answer ≡ b .answer
+  pub octets-same : a .octets ≡ b .octets
+  pub own-same : a .world .machine p s x ≡ b .world .machine p s x
+
+-- ---- frames that are turned round
 
 -- Is the machine active, with this side?
 unfoldable pub facing : ℕ → Machine → Bool

@@ -16,7 +16,7 @@ use Rattle.calls.specs.Frame.{Arrived, pdu, forMp}
 use Rattle.calls.specs.Calls.{Call, make, frame, tick, allow, prohibit, notice, restart}
 use Rattle.demands.specs.World.{World, sameSet}
 use Rattle.demands.specs.Calls.{refusal, call}
-use Rattle.demands.specs.Frame.{arrived}
+use Rattle.demands.specs.Frame.{arrived, activated, deactivated}
 use Rattle.demands.specs.Data.{setsAt, isOwn}
 
 -- ---- the milliseconds of a run
@@ -38,31 +38,36 @@ module _ (keys : ℕ) where
 
 -- ---- calls that leave a machine alone
 
--- a request for a change: Activate or Deactivate
-unfoldable pub changes : Request → Bool
-changes Malformed = false
-changes Reserved = false
-changes (Activate seconds) = true
-changes Deactivate = true
-changes StateRequest = false
+-- A request that fails, with code 2, 5, 6 or 7, changes nothing; one that is carried out gets 0 or 4.
+unfoldable pub carriedOut : ℕ → Bool
+carriedOut code = eqb code 0 || eqb code 4
 
-unfoldable pub asksChange : Arrived → Addressed → Bool
-asksChange a Elsewhere = false
-asksChange a Unicast = changes (requestOf Unicast (destination (a .frame)) (pdu a))
-asksChange a Multicast = changes (requestOf Multicast (destination (a .frame)) (pdu a))
+module _ (keys : ℕ) where
+  -- an Activate or Deactivate that is carried out
+  unfoldable pub changes : World → FrameSet → Arrived → Request → Bool
+  changes w set a Malformed = false
+  changes w set a Reserved = false
+  changes w set a (Activate seconds) = carriedOut (activated keys w set a seconds .code)
+  changes w set a Deactivate = carriedOut (deactivated w set a .code)
+  changes w set a StateRequest = false
 
--- Does a frame of these sets, at most one, carry such a request for an MP?
-unfoldable pub asks : World → ℕ → ℕ → List ℕ → List Member → Bool
-asks w port side f [] = false
-asks w port side f (member set taglen ∷ more) =
-    asksChange (arrived w port side set taglen f) (forMp (arrived w port side set taglen f))
+  unfoldable pub asksChange : World → FrameSet → Arrived → Addressed → Bool
+  asksChange w set a Elsewhere = false
+  asksChange w set a Unicast = changes w set a (requestOf Unicast (destination (a .frame)) (pdu a))
+  asksChange w set a Multicast = changes w set a (requestOf Multicast (destination (a .frame)) (pdu a))
+
+  -- Does a frame of these sets, at most one, carry such a request for an MP?
+  unfoldable pub asks : World → ℕ → ℕ → List ℕ → List Member → Bool
+  asks w port side f [] = false
+  asks w port side f (member set taglen ∷ more) =
+      asksChange w set (arrived w port side set taglen f) (forMp (arrived w port side set taglen f))
 
 module _ (keys : ℕ) (p : ℕ) (s : FrameSet) (x : ℕ) where
   -- Does the call leave the machine of p, s and x to the time that passes? A frame does that is not its own, or that asks for no
-  -- change; an allow, a notice that is taken, and a prohibit of another flow.
+  -- change, or for one that is not carried out; an allow, a notice that is taken, and a prohibit of another flow.
   unfoldable pub spares : World → Call → Bool
   spares w (make text clock) = false
-  spares w (frame port side f out) = not (isOwn w port f p s x && asks w port side f (setsAt w port f))
+  spares w (frame port side f out) = not (isOwn w port f p s x && asks keys w port side f (setsAt w port f))
   spares w (tick clock) = true
   spares w (allow flow) = true
   spares w (prohibit flow) =

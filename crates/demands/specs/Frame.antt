@@ -69,15 +69,22 @@ isFor Multicast = true
 unfoldable pub arrived : World → ℕ → ℕ → FrameSet → ℕ → List ℕ → Arrived
 arrived w port side set taglen f = arrivedAt (w .plan) (portNumbered port (w .plan)) side f set taglen
 
+-- the step of a Deactivate
+abbrev pub deactivated : World → FrameSet → Arrived → Step
+deactivated w set a = deactivate (levelOf (pdu a)) (a .side) (own w set a)
+
 module _ (keys : ℕ) where
+  -- the step of an Activate of so many seconds
+  abbrev pub activated : World → FrameSet → Arrived → ℕ → Step
+  activated w set a seconds =
+      activate (fullFor keys (a .flow) w) seconds (levelOf (pdu a)) (a .side) (tagOf (a .taglen) (a .frame)) (own w set a)
+
   -- Malformed: reply code 1, no copied TLVs. Message type 0 or 4 to 255: reply code 10. Else the machine decides.
   unfoldable pub answers : World → FrameSet → Arrived → Addressed → Request → Told
   answers w set a whom Malformed = replied w set a whom 1 []
   answers w set a whom Reserved = replied w set a whom 10 (copiesOf (pdu a))
-  answers w set a whom (Activate seconds) =
-      stepped w set a whom
-      (activate (fullFor keys (a .flow) w) seconds (levelOf (pdu a)) (a .side) (tagOf (a .taglen) (a .frame)) (own w set a))
-  answers w set a whom Deactivate = stepped w set a whom (deactivate (levelOf (pdu a)) (a .side) (own w set a))
+  answers w set a whom (Activate seconds) = stepped w set a whom (activated w set a seconds)
+  answers w set a whom Deactivate = stepped w set a whom (deactivated w set a)
   answers w set a whom StateRequest = stepped w set a whom (gets 0 (own w set a))
 
   -- Prohibited: no reply; drop. A MIP forwards the multicast one. Under 12 PDU octets: drop.

@@ -9,7 +9,7 @@ use Rattle.octets.specs.Lists.{within}
 use Rattle.codec.specs.declared.FrameSet.{FrameSet}
 use Rattle.codec.specs.FrameSet.{destination, only, setsOf}
 use Rattle.codec.specs.Request.{typeOf, malformed}
-use Rattle.codec_tlvs.specs.Tlv.{Tlv}
+use Rattle.codec_tlvs.specs.Tlv.{Tlv, unknowns, tlvList}
 use Rattle.plan.specs.Plan.{portNumbered, inPlan}
 use Rattle.calls.specs.declared.Answer.{Answer}
 use Rattle.calls.specs.declared.Answer.the-variants.{Refused, Forwarded, Dropped, Replied, RepliedForwarded}
@@ -20,7 +20,6 @@ use Rattle.demands.specs.World.{World}
 use Rattle.demands.specs.Frame.{isFor, arrived}
 use Rattle.demands.specs.Calls.{call}
 use Rattle.demands.specs.Runs.{Seen}
-use Rattle.codec_tlvs.specs.Additions.{tlvList, unknowns}
 use Rattle.demands.specs.Later.{Later}
 
 -- ---- which requests

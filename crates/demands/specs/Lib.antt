@@ -2,7 +2,9 @@ pub mod Machine
 pub mod World
 pub mod Frame
 pub mod Calls
+pub mod Shown
 pub mod Runs
+pub mod Unmade
 pub mod Later
 pub mod LaterRuns
 pub mod Data

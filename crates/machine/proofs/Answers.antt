@@ -62,17 +62,17 @@ module _ (full seconds : ℕ) (new : Session) where
 
   -- ---- a reply has the code of a full unit, or one of these
 
-  abbrev sent : ℕ → Bool
+  abbrev pub sent : ℕ → Bool
   sent code = some (eqb code) (0 ∷ 4 ∷ 5 ∷ 6 ∷ 7 ∷ full ∷ [])
 
-  abbrev codeOf : Machine → Event → ℕ
+  abbrev pub codeOf : Machine → Event → ℕ
   codeOf m e = decided (actionOf (activity m) e) full seconds new m .code
 
   full-sent : sent full ≡ true
   unfolding some
   full-sent = simp (eq-eqb full full refl, or-true)
 
-  activate-sent : (m : Machine) → sent (codeOf m rqst-activate) ≡ true
+  pub activate-sent : (m : Machine) → sent (codeOf m rqst-activate) ≡ true
   unfolding decided actionOf activity admitted restarted refreshed answered some
   activate-sent Inactive = go (goodSeconds seconds) (eqb full 0)
     where
@@ -91,7 +91,7 @@ module _ (full seconds : ℕ) (new : Session) where
       go true false = refl
       go false good = refl
 
-  deactivate-sent : (m : Machine) → sent (codeOf m rqst-deactivate) ≡ true
+  pub deactivate-sent : (m : Machine) → sent (codeOf m rqst-deactivate) ≡ true
   unfolding decided actionOf activity closed answered some
   deactivate-sent Inactive = refl
   deactivate-sent (Active s) = go (sameMp new s)
@@ -100,7 +100,7 @@ module _ (full seconds : ℕ) (new : Session) where
       go true = refl
       go false = refl
 
-  state-sent : (m : Machine) → sent (codeOf m rqst-state) ≡ true
+  pub state-sent : (m : Machine) → sent (codeOf m rqst-state) ≡ true
   unfolding decided actionOf activity answered some
   state-sent Inactive = refl
   state-sent (Active s) = refl

@@ -6,6 +6,7 @@ pub mod Same
 pub mod Zero
 pub mod ListLaws
 pub mod Ordered
+pub mod Members
 pub mod PutLaws
 pub mod Few
 pub mod MoveLaws

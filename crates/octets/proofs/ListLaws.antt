@@ -2,10 +2,10 @@
 use mathlib.Core.Path.{_≡_, refl, sym, _∙_}
 use mathlib.Core.Bool.{Bool, true, false, cond, not, _||_}
 use mathlib.Core.List.{List, [], _∷_, map}
-use Prim.Native.Nat.{ℕ, _≤_}
+use Prim.Native.Nat.{ℕ, zero, suc, _≤_}
 use native.Mathlib.Omega.{arith}
 use lib.Dec.{eqb, leb}
-use lib.ListN.{length}
+use lib.ListN.{length, getD, replicate}
 use borrow.Author.Tests.{leb-true, eq-eqb, ne-eqb, not-false}
 use Rattle.octets.specs.Lists.{within, every, some, count, first}
 use Rattle.octets.proofs.Same.{both-true}
@@ -27,6 +27,12 @@ unfolding within
 within-high low high x h = leb-true x high (both-true (leb low x) (leb x high) h .1)
 
 module _ {A : Type 0} where
+  -- the same element at every place, and behind the last
+  pub all-alike : (x : A) (n i : ℕ) → getD (replicate n x) i x ≡ x
+  all-alike x zero i = refl
+  all-alike x (suc n) zero = refl
+  all-alike x (suc n) (suc i) = all-alike x n i
+
   -- a test that holds where another does, and where two others do
   pub every-such : (one two : A → Bool) → ((x : A) → one x ≡ true → two x ≡ true) → (l : List A) → every one l ≡ true
       → every two l ≡ true
@@ -81,6 +87,17 @@ module _ {A : Type 0} where
   all-counted test (x ∷ l) h =
       let b : _ = both-true (test x) (every test l) h in
       rw (b .0, all-counted test l (b .1)) (omega arith)
+
+  -- a function that keeps a test, and what stands for none
+  pub first-map : (test : A → Bool) (g : A → A) (other : A) → ((x : A) → test (g x) ≡ test x) → g other ≡ other → (l : List A)
+      → first test other (map g l) ≡ g (first test other l)
+  unfolding first
+  first-map test g other p o [] = sym o
+  first-map test g other p o (x ∷ l) = rw (p x, first-map test g other p o l) (go (test x))
+    where
+      go : (t : Bool) → cond t (g x) (g (first test other l)) ≡ g (cond t x (first test other l))
+      go true = refl
+      go false = refl
 
   -- what is not there is not found
   pub not-found : (test : A → Bool) (other : A) (l : List A) → some test l ≡ false → first test other l ≡ other

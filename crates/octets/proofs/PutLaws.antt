@@ -43,6 +43,24 @@ module _ {A : Type 0} where
         by-lt (key y) (key x) (λ e s. rw (e, put-first other k n l))
         (λ e s. by-eq (key y) (key x) (λ f same. rw (e, f, n, same, n)) (λ f s. rw (e, f, n)))
 
+    -- where no element has its key, what passes a test that it fails is found as before, and it is found by a test that it alone passes
+    pub put-other : (test : A → Bool) (other : A) (l : List A) → test x ≡ false → some (λ y. eqb (key y) (key x)) l ≡ false
+        → first test other (put key x l) ≡ first test other l
+    unfolding first put some
+    put-other test other [] t new = rw t
+    put-other test other (y ∷ l) t new =
+        let b : _ = neither (eqb (key y) (key x)) (some (λ y. eqb (key y) (key x)) l) new in
+        by-lt (key y) (key x) (λ e s. rw (e, put-other test other l t (b .1))) (λ e s. rw (e, b .0, t))
+
+    pub put-found : (test : A → Bool) (other : A) (l : List A) → test x ≡ true → some test l ≡ false
+        → first test other (put key x l) ≡ x
+    unfolding first put some
+    put-found test other [] t h = rw t
+    put-found test other (y ∷ l) t h =
+        let b : _ = neither (test y) (some test l) h in
+        by-lt (key y) (key x) (λ e s. rw (e, b .0) (put-found test other l t (b .1)))
+        (λ e s. by-eq (key y) (key x) (λ f s. rw (e, f, t)) (λ f s. rw (e, f, t)))
+
     -- a key above all others is put in last
     pub put-last : (l : List A) → every (λ y. ltb (key y) (key x)) l ≡ true → put key x l ≡ l ++ (x ∷ [])
     unfolding every put

@@ -1,17 +1,18 @@
 -- Laws of `allZero`: a turn of the loop that ORs the octets, and a run of zeros.
 use mathlib.Core.Path.{_≡_, refl}
 use mathlib.Core.Bool.{Bool, true, false, _&&_, and-true, and-assoc}
-use mathlib.Core.List.{List, [], _∷_}
+use mathlib.Core.List.{List, [], _∷_, _++_}
 use Prim.Native.Nat.{ℕ, suc, zero, _+_, _<_, _≤_}
 use native.Mathlib.Numerals.{add-one}
 use native.Mathlib.Omega.{arith}
 use lib.Bits.{bitOr, bitAnd, or-add-and, and-le-l, and-le-r}
 use lib.Dec.{eqb}
-use lib.ListN.{length, getD, drop, replicate, drop-of-length-le}
-use lib.Seq.{drop-cons}
+use lib.ListN.{length, getD, take, drop, replicate, drop-of-length-le, take-append-drop}
+use lib.Seq.{drop-cons, drop-drop}
 use borrow.Author.Tests.{eqb-true, eqb-false, ne-eqb}
-use Rattle.octets.specs.Octets.{allZero}
+use Rattle.octets.specs.Octets.{lowNumber, allZero}
 use Rattle.octets.proofs.Same.{both-true}
+use Rattle.octets.proofs.LowLaws.{low-zero}
 
 or-none : (a x : ℕ) → bitOr a x ≡ 0 → (a ≡ 0) × (x ≡ 0)
 or-none a x e =
@@ -28,11 +29,27 @@ or-eqb a x = go (eqb a 0) (eqb x 0) refl refl
     go true false e f = ne-eqb _ _ (λ z. eqb-false x 0 f (or-none a x z .1))
     go false q e f = ne-eqb _ _ (λ z. eqb-false a 0 e (or-none a x z .0))
 
+-- octets cut in two
+pub zero-parts : (a b : List ℕ) → allZero (a ++ b) ≡ (allZero a && allZero b)
+unfolding allZero
+zero-parts [] b = refl
+zero-parts (x ∷ a) b = rw (zero-parts a b) (simp and-assoc)
+
+pub run-rest : (at n : ℕ) (l : List ℕ) → allZero (drop at l) ≡ (allZero (take n (drop at l)) && allZero (drop (at + n) l))
+run-rest at n l =
+    let both : _ = zero-parts (take n (drop at l)) (drop n (drop at l)) in
+    rw (take-append-drop, drop-drop) at both
+
 -- a turn of the loop: acc is the OR of the octets below i
 pub zero-turn : (l : List ℕ) (i acc : ℕ) → i < length l
     → (eqb (bitOr acc (getD l i 0)) 0 && allZero (drop (i + 1) l)) ≡ (eqb acc 0 && allZero (drop i l))
 unfolding allZero
 zero-turn l i acc h = simp (or-eqb, add-one, drop-cons l i 0 h, and-assoc)
+
+-- and of one that ORs the numbers that n octets spell
+pub word-turn : (n : ℕ) (l : List ℕ) (i acc : ℕ) {x : ℕ} → x ≡ lowNumber n (drop i l)
+    → (eqb (bitOr acc x) 0 && allZero (drop (i + n) l)) ≡ (eqb acc 0 && allZero (drop i l))
+word-turn n l i acc e = rw (or-eqb, e, low-zero, run-rest i n l) (simp and-assoc)
 
 pub zero-end : (l : List ℕ) (i acc : ℕ) → length l ≤ i → (eqb acc 0 && allZero (drop i l)) ≡ eqb acc 0
 unfolding allZero

@@ -1,4 +1,5 @@
 -- Questions about lists that several rooms ask.
+use mathlib.Core.Path.{_≡_}
 use mathlib.Core.List.{List, [], _∷_}
 use mathlib.Core.Bool.{Bool, true, false, cond, _&&_, _||_, not}
 use Prim.Native.Nat.{ℕ, _+_}
@@ -9,6 +10,11 @@ unfoldable pub within : ℕ → ℕ → ℕ → Bool
 within low high x = leb low x && leb x high
 
 module _ {A : Type 0} where
+  -- x is one of the elements
+  pub data In (x : A) : List A → Type 0 where
+    here : {y : A} {l : List A} → x ≡ y → In x (y ∷ l)
+    there : {y : A} {l : List A} → In x l → In x (y ∷ l)
+
   -- does each element pass the test?
   unfoldable pub every : (A → Bool) → List A → Bool
   every test [] = true

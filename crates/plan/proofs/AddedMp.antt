@@ -6,14 +6,14 @@ use Prim.Native.Nat.{ℕ, zero, suc, _+_, _≤_}
 use native.Mathlib.Omega.{arith}
 use lib.Dec.{eqb, leb}
 use lib.ListN.{set, length-set}
-use borrow.Author.Tests.{leb-false, le-leb, not-true}
+use borrow.Author.Tests.{ne-eqb, leb-false, le-leb, not-true}
 use Rattle.octets.specs.Lists.{every, some, count, distinct}
 use Rattle.octets.proofs.Same.{both-true}
 use Rattle.octets.proofs.Cases.{by-eq}
 use Rattle.octets.proofs.ListLaws.{every-such, every-map, map-same, map-none, some-map, within-high}
 use Rattle.octets.proofs.Ordered.{map-ascends}
 use Rattle.plan.specs.declared.Flow.{Flow}
-use Rattle.plan.specs.Plan.{Plan, up, mip, portNumbered, flowKey, mpsOf, mpCount, goodFlow, soFar}
+use Rattle.plan.specs.Plan.{Plan, up, mip, noFlow, portNumbered, flowKey, mpsOf, mpCount, goodFlow, soFar}
 use Rattle.plan.specs.Line.{mpLine}
 use Rattle.plan.specs.PlanText.{withMp, added}
 use Rattle.plan.proofs.Fair.{fairLine}
@@ -40,7 +40,7 @@ set-count test x (y ∷ l) (suc i) = omega (arith, set-count test x l i)
 
 module _ (flow kind level : ℕ) where
   -- a flow's own fields stay
-  with-number : (f : Flow) → withMp flow kind level f .number ≡ f .number
+  pub with-number : (f : Flow) → withMp flow kind level f .number ≡ f .number
   unfolding withMp
   with-number f = by-eq (f .number) flow (λ e s. rw e) (λ e s. rw e)
 
@@ -51,6 +51,10 @@ module _ (flow kind level : ℕ) where
   pub with-other : (f : Flow) → eqb (f .number) flow ≡ false → withMp flow kind level f ≡ f
   unfolding withMp
   with-other f e = rw e
+
+  pub with-none : 1 ≤ flow → withMp flow kind level noFlow ≡ noFlow
+  unfolding noFlow
+  with-none some = with-other noFlow (ne-eqb 0 flow (λ z. omega arith))
 
   with-good : (plan : Plan) → leb kind mip ≡ true → (f : Flow) → goodFlow plan f ≡ true
       → goodFlow plan (withMp flow kind level f) ≡ true

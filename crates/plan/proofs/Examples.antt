@@ -2,6 +2,7 @@
 mod Lines
 pub mod Rules
 mod Written
+mod Order
 use mathlib.Core.Path.{_≡_, refl}
 use mathlib.Core.Bool.{Bool, true, cond, _&&_}
 use mathlib.Core.List.{List, [], _∷_, _++_, map, flatMap}

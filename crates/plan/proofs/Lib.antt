@@ -20,3 +20,10 @@ pub mod WrittenFlows
 pub mod WrittenLevels
 pub mod WrittenRead
 pub mod HeldLaws
+pub mod ByValue
+pub mod Holds
+pub mod HoldsPort
+pub mod HoldsFlow
+pub mod HoldsMp
+pub mod ReadHolds
+pub mod OrderFree

@@ -29,15 +29,15 @@ added-keeps plan (flowLine number port kind vid) h f e =
     flow-keeps plan h number port kind vid (flow-cleared plan number port kind vid e)
 added-keeps plan (mpLine flow kind level) h f e = mp-keeps flow kind level plan h f (mp-cleared plan flow level e)
 
--- what is read is a fault, or a plan that keeps the rules
+-- what is read is a fault with a reason, or a plan that keeps the rules
 abbrev Sound : Reading → Type 0
-Sound (fault line reason) = Unit {0}
+Sound (fault line reason) = reason ≡ 0 → ⊥
 Sound (planned plan) = keepsRules plan ≡ true
 
 finished-sound : (plan : Plan) → soFar plan ≡ true → Sound (finished plan)
 unfolding finished
 finished-sound plan h =
-    by-eq (length (plan .ports)) 0 (λ e s. rw e tt)
+    by-eq (length (plan .ports)) 0 (λ e s. rw e (λ z. omega arith))
     (λ e other. rw e (rules-kept plan (le-leb 1 (length (plan .ports)) (some (length (plan .ports)) other)) h))
   where
     some : (n : ℕ) → (n ≡ 0 → ⊥) → 1 ≤ n
@@ -46,13 +46,13 @@ finished-sound plan h =
 lines-sound : (n : ℕ) (plan : Plan) (lines : List (List ℕ)) → soFar plan ≡ true → Sound (readLines n plan lines)
 unfolding readLines
 lines-sound n plan [] h = finished-sound plan h
-lines-sound n plan (rest ∷ []) h = by-eq (length rest) 0 (λ e s. rw e (finished-sound plan h)) (λ e s. rw e tt)
+lines-sound n plan (rest ∷ []) h = by-eq (length rest) 0 (λ e s. rw e (finished-sound plan h)) (λ e s. rw e (λ z. omega arith))
 lines-sound n plan (line ∷ next ∷ lines) h =
     by-eq (reasonOf plan (lineOf line)) 0
     (λ e none.
     rw e
     (lines-sound (n + 1) (added (lineOf line) plan) (next ∷ lines) (added-keeps plan (lineOf line) h (line-fair line) none)))
-    (λ e s. rw e tt)
+    (λ e some. rw e some)
 
 pub none-so-far : soFar emptyPlan ≡ true
 unfolding soFar emptyPlan every ascends distinct mpCount
@@ -60,7 +60,10 @@ none-so-far = refl
 
 in-sound : (l : List ℕ) → Sound (planIn l)
 unfolding planIn
-in-sound l = by-lt 8192 (length l) (λ e s. rw e tt) (λ e s. rw e (lines-sound 1 emptyPlan (parted lf l) none-so-far))
+in-sound l = by-lt 8192 (length l) (λ e s. rw e (λ z. omega arith)) (λ e s. rw e (lines-sound 1 emptyPlan (parted lf l) none-so-far))
 
 pub read-keeps : (l : List ℕ) (plan : Plan) → planIn l ≡ planned plan → keepsRules plan ≡ true
 read-keeps l plan e = subst Sound e (in-sound l)
+
+pub fault-read : (l : List ℕ) (line reason : ℕ) → planIn l ≡ fault line reason → reason ≡ 0 → ⊥
+fault-read l line reason e = subst Sound e (in-sound l)

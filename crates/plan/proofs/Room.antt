@@ -27,14 +27,16 @@ module _ (plan : Plan) (h : soFar plan ≡ true) where
   k : Kept plan
   k = kept plan h
 
+  pub ports-named : every (λ p. leb 1 (p .number)) (plan .ports) ≡ true
+  ports-named = every-such goodPort (λ p. leb 1 (p .number)) port-named (plan .ports) (k .ports-good)
+
   -- what is not found by its number is not there
   pub port-absent : (n : ℕ) → inPlan (portNumbered n plan .number) ≡ false → some (λ p. eqb (p .number) n) (plan .ports) ≡ false
   unfolding portNumbered inPlan
   port-absent n e =
-      none-there (λ p. leb 1 (p .number)) (λ p. eqb (p .number) n) noPort (plan .ports)
-      (every-such goodPort (λ p. leb 1 (p .number)) port-named (plan .ports) (k .ports-good)) e
+      none-there (λ p. leb 1 (p .number)) (λ p. eqb (p .number) n) noPort (plan .ports) ports-named e
 
-  flows-named : every (λ f. leb 1 (f .number)) (plan .flows) ≡ true
+  pub flows-named : every (λ f. leb 1 (f .number)) (plan .flows) ≡ true
   flows-named = every-such (goodFlow plan) (λ f. leb 1 (f .number)) (flow-named plan) (plan .flows) (k .flows-good)
 
   pub set-absent : (port kind vid : ℕ) → inPlan (flowOfSet port (setOf kind vid) plan .number) ≡ false

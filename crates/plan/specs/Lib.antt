@@ -3,3 +3,4 @@ pub mod Line
 pub mod PlanText
 pub mod WrittenPlan
 pub mod Records
+pub mod SameRecords

@@ -2,3 +2,4 @@ mod CapLaws
 mod ReasonLaws
 mod AddLaws
 mod ReadLaws
+pub mod ReadBack

@@ -1,11 +1,9 @@
--- What the code reads: the reason of a line as it is held, the plan with its record, and what a text is read as.
-use mathlib.Core.Bool.{cond}
+-- What the code reads: the reason of a line as it is held, the plan with its record, and what a text is read as, by value.
 use Prim.Native.Nat.{ℕ}
-use lib.Dec.{eqb}
 use Rattle.plan.specs.Plan.{Plan}
 use Rattle.plan.specs.Line.{portLine, flowLine, mpLine}
-use Rattle.plan.specs.PlanText.{Reading, fault, planned, portReason, flowReason, mpReason, added}
-use Rattle.plan.specs.Records.{planOf}
+use Rattle.plan.specs.PlanText.{Reading, fault, planned, portReason, flowReason, mpReason, added, emptyPlan}
+use Rattle.plan.specs.Records.{byValue}
 use Rattle.plan_lines.specs.declared.Said.{Said}
 use Rattle.plan_lines.specs.declared.Said.the-variants.{Unreadable, OfPort, OfFlow, OfMp}
 use Rattle.plan_reader.specs.declared.ReadPlan.{ReadPlan}
@@ -22,5 +20,7 @@ saidAdded (OfPort number kind address) plan = added (portLine number kind addres
 saidAdded (OfFlow number port kind vid) plan = added (flowLine number port kind vid) plan
 saidAdded (OfMp flow kind level) plan = added (mpLine flow kind level) plan
 
-unfoldable pub readingOf : ReadPlan → Reading
-readingOf x = cond (eqb (x .reason) 0) (planned (planOf (x .records))) (fault (x .line) (x .reason))
+-- what a text is read as, by value: a fault has no records, and a plan no line and no reason
+unfoldable pub readAs : Reading → ReadPlan
+readAs (fault line reason) = record { line = line; reason = reason; records = byValue emptyPlan }
+readAs (planned plan) = record { line = 0; reason = 0; records = byValue plan }

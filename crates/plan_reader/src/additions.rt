@@ -12,12 +12,12 @@ ghost use mathlib.Core.Bool.{true};
 ghost use Rattle.plan.specs.Plan.{soFar};
 ghost use Rattle.plan.specs.Line.{portLine, flowLine, mpLine};
 ghost use Rattle.plan.specs.PlanText.{portReason, flowReason, mpReason, added};
-ghost use Rattle.plan.specs.Records.{planOf};
+ghost use Rattle.plan.specs.Records.{planOf, byValue};
 ghost use Rattle.plan_reader.specs.ReadPlan.{saidReason, saidAdded};
 
 fn with_port(r: Records, number: u32, kind: u8, address: u64) -> Records
-    requires { ⌜ (soFar (planOf r) ≡ true) × (portReason (planOf r) number address ≡ 0) ⌝ }
-    ensures { λ x. ⌜ planOf x ≡ added (portLine number kind address) (planOf r) ⌝ }
+    requires { ⌜ (r ≡ byValue (planOf r)) × (soFar (planOf r) ≡ true) × (portReason (planOf r) number address ≡ 0) ⌝ }
+    ensures { λ x. ⌜ x ≡ byValue (added (portLine number kind address) (planOf r)) ⌝ }
 {
     let ports = r.ports;
     let port = Port {
@@ -34,8 +34,8 @@ fn with_port(r: Records, number: u32, kind: u8, address: u64) -> Records
 }
 
 fn with_flow(r: Records, number: u32, port: u32, kind: u8, vid: u32) -> Records
-    requires { ⌜ (soFar (planOf r) ≡ true) × (flowReason (planOf r) number port kind vid ≡ 0) ⌝ }
-    ensures { λ x. ⌜ planOf x ≡ added (flowLine number port kind vid) (planOf r) ⌝ }
+    requires { ⌜ (r ≡ byValue (planOf r)) × (soFar (planOf r) ≡ true) × (flowReason (planOf r) number port kind vid ≡ 0) ⌝ }
+    ensures { λ x. ⌜ x ≡ byValue (added (flowLine number port kind vid) (planOf r)) ⌝ }
 {
     let flows = r.flows;
     let flow = Flow {
@@ -54,8 +54,8 @@ fn with_flow(r: Records, number: u32, port: u32, kind: u8, vid: u32) -> Records
 }
 
 fn with_mp(r: Records, flow: u32, kind: u8, level: u32) -> Records
-    requires { ⌜ mpReason (planOf r) flow level ≡ 0 ⌝ }
-    ensures { λ x. ⌜ planOf x ≡ added (mpLine flow kind level) (planOf r) ⌝ }
+    requires { ⌜ (r ≡ byValue (planOf r)) × (mpReason (planOf r) flow level ≡ 0) ⌝ }
+    ensures { λ x. ⌜ x ≡ byValue (added (mpLine flow kind level) (planOf r)) ⌝ }
 {
     let flows = r.flows;
     let rows = mps_put(flows, flow, kind, level);
@@ -67,8 +67,8 @@ fn with_mp(r: Records, flow: u32, kind: u8, level: u32) -> Records
 }
 
 pub fn with_line(r: Records, line: Said) -> Records
-    requires { ⌜ (soFar (planOf r) ≡ true) × (saidReason (planOf r) line ≡ 0) ⌝ }
-    ensures { λ x. ⌜ planOf x ≡ saidAdded line (planOf r) ⌝ }
+    requires { ⌜ (r ≡ byValue (planOf r)) × (soFar (planOf r) ≡ true) × (saidReason (planOf r) line ≡ 0) ⌝ }
+    ensures { λ x. ⌜ x ≡ byValue (saidAdded line (planOf r)) ⌝ }
 {
     match line {
         Said::Unreadable => r,

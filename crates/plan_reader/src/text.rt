@@ -17,13 +17,12 @@ use plan_records::no_flow;
 use plan_records::no_port;
 use plan_records::none_held;
 ghost use mathlib.Core.Path.{_≡_};
-ghost use Prim.Native.Nat.{_<_};
 ghost use Rattle.plan.specs.PlanText.{fault, finished, emptyPlan, planIn};
-ghost use Rattle.plan.specs.Records.{planOf};
-ghost use Rattle.plan_reader.specs.ReadPlan.{readingOf};
+ghost use Rattle.plan.specs.Records.{planOf, byValue};
+ghost use Rattle.plan_reader.specs.ReadPlan.{readAs};
 
 fn no_records() -> Records
-    ensures { λ r. ⌜ planOf r ≡ emptyPlan ⌝ }
+    ensures { λ r. ⌜ r ≡ byValue emptyPlan ⌝ }
 {
     let p = no_port();
     let f = no_flow();
@@ -34,8 +33,7 @@ fn no_records() -> Records
 }
 
 fn faulty(line: u32, reason: u8) -> ReadPlan
-    requires { ⌜ 0 < reason ⌝ }
-    ensures { λ r. ⌜ readingOf r ≡ fault line reason ⌝ }
+    ensures { λ r. ⌜ r ≡ readAs (fault line reason) ⌝ }
 {
     let records = no_records();
     ReadPlan {
@@ -46,7 +44,8 @@ fn faulty(line: u32, reason: u8) -> ReadPlan
 }
 
 fn ended(records: Records) -> ReadPlan
-    ensures { λ r. ⌜ readingOf r ≡ finished (planOf records) ⌝ }
+    requires { ⌜ records ≡ byValue (planOf records) ⌝ }
+    ensures { λ r. ⌜ r ≡ readAs (finished (planOf records)) ⌝ }
 {
     let ports = records.ports;
     if none_held(ports) {
@@ -60,7 +59,7 @@ fn ended(records: Records) -> ReadPlan
 }
 
 pub fn read_plan(text: &[u8]) -> ReadPlan
-    ensures { λ r. ⌜ readingOf r ≡ planIn (now (text .entry)) ⌝ }
+    ensures { λ r. ⌜ r ≡ readAs (planIn (now (text .entry))) ⌝ }
 {
     if LONGEST_TEXT < text.len() {
         return faulty(0, TOO_LONG);

@@ -1,4 +1,4 @@
--- A row put in its place, and rows changed one by one: each turn of their loops, and what is held behind it.
+-- A row put in its place, and rows changed one by one: each turn of their loops, and what the rows are behind it.
 use mathlib.Core.Path.{_≡_, refl, sym, ap, _∙_}
 use mathlib.Core.Bool.{false}
 use mathlib.Core.List.{List, [], _∷_, map}
@@ -8,11 +8,10 @@ use native.Mathlib.Numerals.{add-one}
 use native.Mathlib.Omega.{arith}
 use lib.Dec.{eqb}
 use lib.ListN.{length, getD, set, length-set}
-use borrow.Author.Tests.{ne-eqb}
 use Rattle.octets.specs.Lists.{some, put}
-use Rattle.octets.proofs.Cases.{by-eq, by-lt}
+use Rattle.octets.proofs.Cases.{by-lt}
 use Rattle.octets.proofs.ListLaws.{neither}
-use Rattle.plan.proofs.HeldLaws.{Rows}
+use Rattle.plan.specs.Records.{filled}
 use Rattle.plan_records.specs.Insertion.{placeOf, inserted, changedFrom}
 
 module _ {A : Type 0} where
@@ -63,55 +62,34 @@ module _ {A : Type 0} {n at : ℕ} {x₀ : A} {l₀ l : List A} {x : A} {i : ℕ
   pub insert-end : n ≤ i → l ≡ inserted at x₀ l₀
   insert-end h = sym (inserted-end i x l (omega arith)) ∙ w .same
 
-module _ {A : Type 0} {number : A → ℕ} {held : List A → List A} (rows : Rows number held) where
-  empty : (y : A) (l : List A) → number y ≡ 0 → held (y ∷ l) ≡ []
-  empty y l e = rows .one y l ∙ rw e
+-- rows that are filled with the elements of a list, and then with one row
+module _ {A : Type 0} (e : A) where
+  pushed-empty : (n : ℕ) → inserted 0 e (filled n e []) ≡ filled n e []
+  unfolding inserted filled
+  pushed-empty zero = refl
+  pushed-empty (suc n) = ap (λ (r : List A). e ∷ r) (pushed-empty n)
 
-  full : (y : A) (l : List A) → (number y ≡ 0 → ⊥) → held (y ∷ l) ≡ y ∷ held l
-  full y l n = rows .one y l ∙ rw (ne-eqb _ _ n)
-
-  -- what is held of rows that a function changes, but not their numbers
-  pub held-map : (f : A → A) → ((x : A) → number (f x) ≡ number x) → (l : List A) → held (map f l) ≡ map f (held l)
-  held-map f p [] = rw (rows .none)
-  held-map f p (x ∷ l) =
-      by-eq (number x) 0 (λ e z. empty (f x) (map f l) (p x ∙ z) ∙ ap (map f) (sym (empty x l z)))
-      (λ e n.
-      full (f x) (map f l) (λ z. n (sym (p x) ∙ z)) ∙ ap (λ (r : List A). f x ∷ r) (held-map f p l)
-      ∙ ap (map f) (sym (full x l n)))
-
-  -- an empty row pushes nothing on; another stands before what was held
-  pushed-empty : (y : A) (l : List A) → number y ≡ 0 → held (inserted 0 y l) ≡ []
-  unfolding inserted
-  pushed-empty y [] e = rows .none
-  pushed-empty y (z ∷ l) e = empty y (inserted 0 z l) e
-
-  pushed : (y : A) (l : List A) → (number y ≡ 0 → ⊥) → length (held l) < length l → held (inserted 0 y l) ≡ y ∷ held l
-  unfolding inserted
-  pushed y [] n h = absurd (not-suc-le-zero h)
-  pushed y (z ∷ l) n h =
-      full y (inserted 0 z l) n
-      ∙ ap (λ (r : List A). y ∷ r)
-      (by-eq (number z) 0 (λ e s. pushed-empty z l s ∙ sym (empty z l s))
-      (λ e s. let k : held (z ∷ l) ≡ z ∷ held l = full z l s in pushed z l s (le-of-suc-le-suc (rw k at h)) ∙ sym k))
+  pushed : (n : ℕ) (x : A) (l : List A) → length l < n → inserted 0 x (filled n e l) ≡ filled n e (x ∷ l)
+  unfolding inserted filled
+  pushed zero x l h = absurd (not-suc-le-zero h)
+  pushed (suc n) x [] h = ap (λ (r : List A). x ∷ r) (pushed-empty n)
+  pushed (suc n) x (y ∷ l) h = ap (λ (r : List A). x ∷ r) (pushed n y l (le-of-suc-le-suc h))
 
   -- a key that is not there yet, put in at its place
-  pub place-put : (key : A → ℕ) (x : A) → (number x ≡ 0 → ⊥) → (l : List A) → length (held l) < length l
-      → some (λ y. eqb (key y) (key x)) (held l) ≡ false → held (inserted (placeOf key (key x) (held l)) x l) ≡ put key x (held l)
-  unfolding some put placeOf inserted
-  place-put key x n [] h a = absurd (not-suc-le-zero h)
-  place-put key x n (y ∷ l) h a =
-      by-eq (number y) 0
-      (λ e s.
-      let k : held (y ∷ l) ≡ [] = empty y l s in
-      rw k (full x (inserted 0 y l) n ∙ ap (λ (r : List A). x ∷ r) (pushed-empty y l s)))
-      (λ e s.
-      let k : held (y ∷ l) ≡ y ∷ held l = full y l s in
-      let m : length (held l) < length l = le-of-suc-le-suc (rw k at h) in
-      let b : _ = neither (eqb (key y) (key x)) (some (λ z. eqb (key z) (key x)) (held l)) (rw k at a) in
-      rw k
-      (by-lt (key y) (key x)
-      (λ f t.
-      rw f
-      (full y (inserted (placeOf key (key x) (held l)) x l) s
-      ∙ ap (λ (r : List A). y ∷ r) (place-put key x n l m (b .1))))
-      (λ f t. rw (f, b .0) (full x (inserted 0 y l) n ∙ ap (λ (r : List A). x ∷ r) (pushed y l s m)))))
+  pub filled-put : (key : A → ℕ) (x : A) (n : ℕ) (l : List A) → length l < n → some (λ y. eqb (key y) (key x)) l ≡ false
+      → inserted (placeOf key (key x) l) x (filled n e l) ≡ filled n e (put key x l)
+  unfolding some put placeOf inserted filled
+  filled-put key x zero l h a = absurd (not-suc-le-zero h)
+  filled-put key x (suc n) [] h a = ap (λ (r : List A). x ∷ r) (pushed-empty n)
+  filled-put key x (suc n) (y ∷ l) h a =
+      let b : _ = neither (eqb (key y) (key x)) (some (λ z. eqb (key z) (key x)) l) a in
+      by-lt (key y) (key x)
+      (λ f s. rw f (ap (λ (r : List A). y ∷ r) (filled-put key x n l (le-of-suc-le-suc h) (b .1))))
+      (λ f s. rw (f, b .0) (ap (λ (r : List A). x ∷ r) (pushed n y l (le-of-suc-le-suc h))))
+
+  -- every row changed, by a function that keeps the empty one
+  pub filled-map : (f : A → A) → f e ≡ e → (n : ℕ) (l : List A) → map f (filled n e l) ≡ filled n e (map f l)
+  unfolding filled
+  filled-map f k zero l = refl
+  filled-map f k (suc n) [] = rw (k, filled-map f k n [])
+  filled-map f k (suc n) (x ∷ l) = rw (filled-map f k n l)

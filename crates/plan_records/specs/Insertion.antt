@@ -1,11 +1,8 @@
 -- Rows changed in place: a row put in before another, each row changed from one on.
-use mathlib.Core.Path.{_≡_}
 use mathlib.Core.List.{List, [], _∷_}
-use mathlib.Core.Bool.{false, cond}
-use Prim.Native.Nat.{ℕ, zero, suc, _<_}
-use lib.ListN.{length}
-use lib.Dec.{eqb, ltb}
-use Rattle.octets.specs.Lists.{some}
+use mathlib.Core.Bool.{cond}
+use Prim.Native.Nat.{ℕ, zero, suc}
+use lib.Dec.{ltb}
 
 module _ {A : Type 0} where
   -- how many elements stand before the place of the key k
@@ -24,7 +21,3 @@ module _ {A : Type 0} where
   changedFrom i f [] = []
   changedFrom zero f (x ∷ l) = f x ∷ changedFrom zero f l
   changedFrom (suc i) f (x ∷ l) = x ∷ changedFrom i f l
-
-  -- fewer than n, and none with the key of x
-  abbrev pub RoomFor : ℕ → (A → ℕ) → A → List A → Type 0
-  RoomFor n key x l = (length l < n) × (some (λ y. eqb (key y) (key x)) l ≡ false)

@@ -7,11 +7,10 @@ use plan::Port;
 ghost use mathlib.Core.Path.{_≡_};
 ghost use mathlib.Core.List.{map};
 ghost use Prim.Native.Nat.{_<_};
-ghost use Rattle.octets.specs.Lists.{put};
 ghost use Rattle.plan.specs.Plan.{flowKey};
 ghost use Rattle.plan.specs.PlanText.{withMp};
 ghost use Rattle.plan.specs.Records.{heldPorts, heldFlows};
-ghost use Rattle.plan_records.specs.Insertion.{placeOf, inserted, RoomFor};
+ghost use Rattle.plan_records.specs.Insertion.{placeOf, inserted};
 
 // How many ports come before this number.
 fn port_place(ports: [Port; PORTS], number: u8) -> usize
@@ -48,8 +47,7 @@ fn port_at(ports: [Port; PORTS], at: usize, port: Port) -> [Port; PORTS]
 }
 
 pub fn port_put(ports: [Port; PORTS], port: Port) -> [Port; PORTS]
-    requires { ⌜ (0 < port .number) × RoomFor 8 (λ p. p .number) port (heldPorts ports) ⌝ }
-    ensures { λ r. ⌜ heldPorts r ≡ put (λ p. p .number) port (heldPorts ports) ⌝ }
+    ensures { λ r. ⌜ r ≡ inserted (placeOf (λ p. p .number) (port .number) (heldPorts ports)) port ports ⌝ }
 {
     port_at(ports, port_place(ports, port.number), port)
 }
@@ -87,8 +85,7 @@ fn flow_at(flows: [Flow; FLOWS], at: usize, flow: Flow) -> [Flow; FLOWS]
 }
 
 pub fn flow_put(flows: [Flow; FLOWS], flow: Flow) -> [Flow; FLOWS]
-    requires { ⌜ (0 < flow .number) × RoomFor 32 flowKey flow (heldFlows flows) ⌝ }
-    ensures { λ r. ⌜ heldFlows r ≡ put flowKey flow (heldFlows flows) ⌝ }
+    ensures { λ r. ⌜ r ≡ inserted (placeOf flowKey (flowKey flow) (heldFlows flows)) flow flows ⌝ }
 {
     flow_at(flows, flow_place(flows, key_of(flow)), flow)
 }

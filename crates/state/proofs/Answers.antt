@@ -19,7 +19,7 @@ use Rattle.plan.specs.declared.Port.{Port}
 use Rattle.plan.specs.Plan.{noPort, noFlow, portNumbered, setKey, flowKey, flowOfSet}
 use Rattle.state.specs.State.{machineOf, noSession, firstOwed, noticeDue}
 use Rattle.state.specs.Image.{portIn, flowIn, sessionIn, stateOf}
-use Rattle.state.specs.Rows.{portAt, flowAt, sessionAt, owedAt, flowOfRow}
+use Rattle.state.specs.Rows.{portAt, flowAt, sessionAt, owedAt, flowOfRow, machineOfRow}
 use Rattle.state.proofs.FoundLaws.{Found, found, found-first}
 use Rattle.state.proofs.RowLaws.{flow-key-in, session-key-in}
 
@@ -46,28 +46,30 @@ module _ (b : List ℕ) where
       (omega arith) refl in
       by-eq (flowAt port set b) 0 (λ e z. simp e (f .nothing z)) (λ e z. simp e (f .something z))
 
-  -- the machine of a key
-  session-found : (key : ℕ) {r : ℕ} → r ≡ sessionAt key b
-      → Found r Inactive (cond (isOpen (sessionIn (drop r b))) (Active (sessionIn (drop r b))) Inactive)
-      (machineOf key (stateOf b .sessions))
-  unfolding sessionAt stateOf machineOf
-  session-found key e =
-      let hit : Session → Machine = λ x. cond (isOpen x) (Active x) Inactive in
-      found sessionIn (λ l. eqb (lowNumber 8 l) key) (λ x. eqb (keyOf x) key) hit (machineOf key) 32
-      (λ l. rw session-key-in) (λ x xs. refl) 16 1536 b (omega arith) e
-
-  module _ (key : ℕ) {r : ℕ} (e : r ≡ sessionAt key b) where
-    pub machine-none : r ≡ 0 → Inactive ≡ machineOf key (stateOf b .sessions)
-    machine-none z = session-found key e .nothing z
+  -- the machine of a session's row
+  module _ {r : ℕ} where
+    pub row-none : r ≡ 0 → Inactive ≡ machineOfRow r b
+    unfolding machineOfRow
+    row-none z = simp (eq-eqb r 0 z)
 
     module _ {x : Session} (there : r ≡ 0 → ⊥) (read : x ≡ sessionIn (drop r b)) where
-      pub machine-owed : (x .notice ≡ 0 → ⊥) → Inactive ≡ machineOf key (stateOf b .sessions)
-      unfolding isOpen
-      machine-owed h = simp (ne-eqb (x .notice) 0 h) at (rw (← read) at (session-found key e .something there))
+      pub row-owed : (x .notice ≡ 0 → ⊥) → Inactive ≡ machineOfRow r b
+      unfolding machineOfRow isOpen
+      row-owed h = rw (ne-eqb r 0 there, ← read, ne-eqb (x .notice) 0 h)
 
-      pub machine-open : x .notice ≡ 0 → Active x ≡ machineOf key (stateOf b .sessions)
-      unfolding isOpen
-      machine-open h = simp (eq-eqb (x .notice) 0 h) at (rw (← read) at (session-found key e .something there))
+      pub row-open : x .notice ≡ 0 → Active x ≡ machineOfRow r b
+      unfolding machineOfRow isOpen
+      row-open h = rw (ne-eqb r 0 there, ← read, eq-eqb (x .notice) 0 h)
+
+  -- the machine of a key
+  pub machine-found : (key : ℕ) {r : ℕ} → r ≡ sessionAt key b → machineOfRow r b ≡ machineOf key (stateOf b .sessions)
+  unfolding sessionAt machineOfRow stateOf machineOf
+  machine-found key {r} e =
+      let hit : Session → Machine = λ x. cond (isOpen x) (Active x) Inactive in
+      let f : Found r Inactive (hit (sessionIn (drop r b))) (machineOf key (stateOf b .sessions))
+      = found sessionIn (λ l. eqb (lowNumber 8 l) key) (λ x. eqb (keyOf x) key) hit (machineOf key) 32
+      (λ l. rw session-key-in) (λ x xs. refl) 16 1536 b (omega arith) e in
+      by-eq r 0 (λ t z. simp t (f .nothing z)) (λ t z. simp t (f .something z))
 
   -- the first session that is owed a notice, and whether one is
   pub owed-found : {r : ℕ} → r ≡ owedAt b → Found r noSession (sessionIn (drop r b)) (firstOwed (stateOf b))

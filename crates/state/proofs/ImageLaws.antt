@@ -102,6 +102,10 @@ module _ (s : State) (v : valid s ≡ true) where
   unfolding okImage
   image-ok = rw (state-image, v, same-self)
 
--- One state has one image.
-pub one-image : (s t : State) → valid s ≡ true → valid t ≡ true → image s ≡ image t → s ≡ t
-one-image s t v w e = sym (state-image s v) ∙ ap stateOf e ∙ state-image t w
+-- One state has one image: octets that pass and are read as the same state are the same octets.
+pub one-image : (k l : List ℕ) → okImage k ≡ true → okImage l ≡ true → stateOf k ≡ stateOf l → k ≡ l
+one-image k l h i e = sym (image-state k h) ∙ ap image e ∙ image-state l i
+
+-- One image has one state: valid states with the same image are the same state.
+pub one-state : (s t : State) → valid s ≡ true → valid t ≡ true → image s ≡ image t → s ≡ t
+one-state s t v w e = sym (state-image s v) ∙ ap stateOf e ∙ state-image t w

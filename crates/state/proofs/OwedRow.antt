@@ -8,11 +8,12 @@ use lib.Dec.{eqb}
 use lib.ListN.{getD, drop}
 use borrow.Author.Tests.{eq-eqb, ne-eqb}
 use Rattle.octets.specs.Octets.{lowNumber}
-use Rattle.octets.specs.Lists.{some, first, ascends}
+use Rattle.octets.specs.Lists.{every, some, first, ascends}
+use Rattle.octets.proofs.Same.{both-true}
 use Rattle.octets.proofs.Ordered.{next-key}
 use Rattle.machine.specs.declared.Session.{Session}
 use Rattle.machine.specs.Machine.{keyOf, isOpen}
-use Rattle.state.specs.State.{valid, noticeDue, noSession, firstOwed}
+use Rattle.state.specs.State.{State, goodSession, valid, noticeDue, noSession, firstOwed}
 use Rattle.state.specs.Image.{sessionIn, rowsIn, stateOf}
 use Rattle.state.specs.Rows.{findRow, sessionAt, owedAt}
 use Rattle.state.proofs.RowLaws.{session-key-in}
@@ -34,6 +35,17 @@ first-above key test other last (x ∷ l) a h =
     (λ t.
     let r : key x < key (first test other l) = first-above key test other (key x) l (p .1) (rw t at h) in
     rw t (omega (arith, p .0)))
+
+-- what each that passes has, if it is good, the first has
+pub first-such : {A : Type 0} (test good told : A → Bool) → ((x : A) → test x ≡ true → good x ≡ true → told x ≡ true) → (other : A)
+    (l : List A) → some test l ≡ true → every good l ≡ true → told (first test other l) ≡ true
+unfolding some every first
+first-such test good told p other [] h e = absurd (false≢true h)
+first-such test good told p other (x ∷ l) h e =
+    let b : _ = both-true (good x) (every good l) e in
+    by-test (test x)
+    (λ t. rw t (p x t (b .0)))
+    (λ t. let g : some test l ≡ true = rw t at h in rw t (first-such test good told p other l g (b .1)))
 
 abbrev owed : Session → Bool
 owed x = not (isOpen x)
@@ -68,3 +80,9 @@ pub owed-keyed : (b : List ℕ) → valid (stateOf b) ≡ true → noticeDue (st
     → owedAt b ≡ sessionAt (keyOf (firstOwed (stateOf b))) b
 unfolding owedAt sessionAt stateOf noticeDue firstOwed
 owed-keyed b v due = owed-row 16 1536 0 (drop 1536 b) (valid-parts (stateOf b) v .sessions-ascend) due
+
+-- So it is as a session of a valid state must be, and what follows from that, of one that is not open, holds of it.
+pub owed-such : (s : State) → valid s ≡ true → noticeDue s ≡ true → (told : Session → Bool)
+    → ((x : Session) → not (isOpen x) ≡ true → goodSession s x ≡ true → told x ≡ true) → told (firstOwed s) ≡ true
+unfolding noticeDue firstOwed
+owed-such s v due told p = first-such owed (goodSession s) told p noSession (s .sessions) due (valid-parts s v .sessions-good)

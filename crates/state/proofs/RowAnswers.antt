@@ -1,23 +1,18 @@
 -- What a row says of an MP, and the list of the allowed flows of a flow.
-use mathlib.Core.Path.{_≡_, refl, sym}
+use mathlib.Core.Path.{_≡_, sym}
 use mathlib.Core.Bool.{false}
 use mathlib.Core.List.{List, map}
-use Prim.Native.Nat.{ℕ, suc, zero, _+_, _-_, _<_, _≤_}
+use Prim.Native.Nat.{ℕ, _+_, _-_, _<_, _≤_}
 use native.Mathlib.Nat.{add-assoc, min-le-left, le-trans}
 use native.Mathlib.Omega.{arith}
 use lib.Dec.{eqb}
-use lib.ListN.{length, getD, take, drop, replicate, length-take, List·getD-map, List·getD-eq-default}
+use lib.ListN.{length, getD, take, drop, length-take, List·getD-map, List·getD-eq-default}
 use lib.Seq.{getD-drop, getD-take}
 use borrow.Author.Tests.{ne-eqb}
-use Rattle.octets.proofs.ListLaws.{eqb-turn}
+use Rattle.octets.proofs.ListLaws.{eqb-turn, all-alike}
 use Rattle.plan.specs.Plan.{noFlow, mpAt}
 use Rattle.state.specs.Image.{flowIn}
 use Rattle.state.specs.Rows.{flowOfRow}
-
-none-at : (n level : ℕ) → getD (replicate {A = ℕ} n 0) level 0 ≡ 0
-none-at zero level = refl
-none-at (suc n) zero = refl
-none-at (suc n) (suc level) = none-at n level
 
 none-above : (n : ℕ) (l : List ℕ) (level : ℕ) → n ≤ level → getD (take n l) level 0 ≡ 0
 none-above n l level h = List·getD-eq-default (take n l) 0 (rw length-take (le-trans (min-le-left n (length l)) h))
@@ -26,7 +21,7 @@ none-above n l level h = List·getD-eq-default (take n l) 0 (rw length-take (le-
 module _ (b : List ℕ) (row level : ℕ) where
   pub mp-none : row ≡ 0 → 0 ≡ mpAt level (flowOfRow row b)
   unfolding mpAt flowOfRow noFlow
-  mp-none e = rw e (sym (none-at 8 level))
+  mp-none e = rw e (sym (all-alike 0 8 level))
 
   pub mp-above : (row ≡ 0 → ⊥) → 7 < level → 0 ≡ mpAt level (flowOfRow row b)
   unfolding mpAt flowOfRow flowIn

@@ -8,9 +8,12 @@ use lib.Dec.{eqb}
 use Rattle.octets.specs.Octets.{lowNumber}
 use Rattle.octets.specs.Lists.{within}
 use Rattle.codec.specs.declared.FrameSet.{FrameSet}
+use Rattle.machine.specs.declared.Machine.{Machine}
+use Rattle.machine.specs.declared.Machine.the-variants.{Inactive, Active}
+use Rattle.machine.specs.Machine.{isOpen}
 use Rattle.plan.specs.declared.Flow.{Flow}
 use Rattle.plan.specs.Plan.{noFlow, setKey}
-use Rattle.state.specs.Image.{flowIn}
+use Rattle.state.specs.Image.{flowIn, sessionIn}
 use Rattle.state.specs.Layout.{placesAt, portsAt, flowsAt, sessionsAt}
 use Rattle.state.specs.Layout.{mostPorts, mostFlows, mostSessions, portWidth, flowWidth, sessionWidth}
 use Rattle.state.specs.Layout.{portNumberAt, flowVidAt, sessionNoticeAt}
@@ -46,3 +49,9 @@ numberedAt flow b = cond (within 1 mostFlows flow) (rowAtPlace (getD b (placesAt
 -- the flow of a row
 unfoldable pub flowOfRow : ℕ → List ℕ → Flow
 flowOfRow at b = cond (eqb at 0) noFlow (flowIn (drop at b))
+
+-- the machine of a session's row
+unfoldable pub machineOfRow : ℕ → List ℕ → Machine
+machineOfRow at b =
+    let x = sessionIn (drop at b) in
+    cond (eqb at 0) Inactive (cond (isOpen x) (Active x) Inactive)

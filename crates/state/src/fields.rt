@@ -1,5 +1,4 @@
 // What an image says, whatever its octets are.
-use crate::Found;
 use crate::layout::ALLOWED_BEFORE;
 use crate::layout::CLOCK_AT;
 use crate::layout::FLOW_MPS_AT;
@@ -30,7 +29,7 @@ ghost use Rattle.plan.specs.declared.Flow.{Flow};
 ghost use Rattle.plan.specs.Plan.{portNumbered, mpAt};
 ghost use Rattle.state.specs.State.{isAllowed, machineOf, fullFor, noticeDue};
 ghost use Rattle.state.specs.Image.{stateOf};
-ghost use Rattle.state.specs.Rows.{sessionAt, flowOfRow};
+ghost use Rattle.state.specs.Rows.{flowOfRow, machineOfRow};
 
 pub fn clock_of(b: &[u8]) -> u32
     requires { ⌜ length (now b) ≡ 4096 ⌝ }
@@ -87,36 +86,27 @@ pub fn allows(b: &[u8], flow: usize) -> bool
     b[ALLOWED_BEFORE + flow] == 1
 }
 
-pub fn find_machine(b: &[u8], key: u64) -> Found
-    requires { ⌜ length (now b) ≡ 4096 ⌝ }
-    ensures { λ r. ⌜ (r .row ≡ sessionAt key (now (b .entry)))
-        × (r .machine ≡ machineOf key (stateOf (now (b .entry)) .sessions)) ⌝ }
+// The machine of a key, whose session's row has been found; of 0, it is inactive.
+pub fn machine_at(b: &[u8], row: usize) -> Machine
+    requires { ⌜ row + 32 ≤ length (now b) ⌝ }
+    ensures { λ r. ⌜ r ≡ machineOfRow row (now (b .entry)) ⌝ }
 {
-    let row = session_at(b, key);
     if row == 0 {
-        return Found {
-            row,
-            machine: Machine::Inactive,
-        };
+        return Machine::Inactive;
     }
     let s = read_session(b, row);
     if s.notice != 0 {
-        return Found {
-            row,
-            machine: Machine::Inactive,
-        };
+        return Machine::Inactive;
     }
-    Found {
-        row,
-        machine: Machine::Active(s),
-    }
+    Machine::Active(s)
 }
 
 pub fn machine_of(b: &[u8], key: u64) -> Machine
     requires { ⌜ length (now b) ≡ 4096 ⌝ }
     ensures { λ r. ⌜ r ≡ machineOf key (stateOf (now (b .entry)) .sessions) ⌝ }
 {
-    find_machine(b, key).machine
+    let row = session_at(b, key);
+    machine_at(b, row)
 }
 
 pub fn notice_due(b: &[u8]) -> bool

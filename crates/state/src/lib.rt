@@ -1,6 +1,4 @@
 // The state's one image, on the lent octets: where things stand in it, and what it says.
-use machine::Machine;
-
 mod fields;
 mod layout;
 mod records;
@@ -8,8 +6,8 @@ mod rows;
 
 pub use fields::allows;
 pub use fields::clock_of;
-pub use fields::find_machine;
 pub use fields::full_for;
+pub use fields::machine_at;
 pub use fields::machine_of;
 pub use fields::mp_of;
 pub use fields::notice_due;
@@ -58,9 +56,3 @@ pub use rows::numbered_at;
 pub use rows::owed_at;
 pub use rows::port_at;
 pub use rows::session_at;
-
-// The row of a key's session, or 0, and the machine that the key has.
-pub struct Found {
-    pub row: usize,
-    pub machine: Machine,
-}

@@ -8,6 +8,7 @@ use lib.Dec.{eqb, leb}
 use lib.ListN.{length, take, drop, length-drop}
 use lib.Seq.{drop-drop, take-add, length-take-le}
 use Rattle.octets.specs.Octets.{lowNumber, allZero}
+use Rattle.octets.proofs.Zero.{zero-parts}
 use Rattle.octets.specs.Lists.{every, count}
 use Rattle.octets.proofs.Cases.{by-eq}
 use Rattle.octets.proofs.LowLaws.{low-zero}
@@ -16,7 +17,6 @@ use Rattle.plan.specs.Plan.{mip}
 use Rattle.state.proofs.Cuts.{low-within}
 use Rattle.state_tables.specs.Pass.{okRows, Seen, oddOf, octetSum, flowFits, flowSeen, flowsRight}
 use Rattle.state_tables.proofs.Tests.{and-left-comm}
-use Rattle.state_tables.proofs.ZeroLaws.{zero-parts}
 use Rattle.octets.proofs.Zero.{or-eqb}
 use Rattle.state_tables.proofs.BitLaws.{mask, odd-none}
 use Rattle.state_tables.proofs.RowsLaw.{octets-take}

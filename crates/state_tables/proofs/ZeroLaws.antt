@@ -9,23 +9,14 @@ use lib.Seq.{drop-drop, take-all}
 use borrow.Author.Tests.{ne-eqb}
 use Rattle.octets.specs.Octets.{lowNumber, allZero}
 use Rattle.octets.proofs.LowLaws.{low-zero}
+use Rattle.octets.proofs.Zero.{zero-parts, run-rest}
 use Rattle.octets.proofs.Cases.{by-le}
 use Rattle.octets.proofs.Same.{both-true}
 use Rattle.state.proofs.Cuts.{take-on}
 
-pub zero-parts : (a b : List ℕ) → allZero (a ++ b) ≡ (allZero a && allZero b)
-unfolding allZero
-zero-parts [] b = refl
-zero-parts (x ∷ a) b = rw (zero-parts a b) (simp and-assoc)
-
 pub zero-cut : (at m n : ℕ) (l : List ℕ)
     → allZero (take (m + n) (drop at l)) ≡ (allZero (take m (drop at l)) && allZero (take n (drop (at + m) l)))
 zero-cut at m n l = rw (take-on, zero-parts)
-
-run-rest : (at n : ℕ) (l : List ℕ) → allZero (drop at l) ≡ (allZero (take n (drop at l)) && allZero (drop (at + n) l))
-run-rest at n l =
-    let both : _ = zero-parts (take n (drop at l)) (drop n (drop at l)) in
-    rw (take-append-drop, drop-drop) at both
 
 -- k is the number that n octets at a place spell: with the m octets behind it
 module _ (at n m : ℕ) (l : List ℕ) {k : ℕ} {X : Bool} (inv : allZero (take (n + m) (drop at l)) ≡ X)

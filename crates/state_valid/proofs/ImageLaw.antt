@@ -26,6 +26,7 @@ use Rattle.state.proofs.Sizes.{Sized}
 use Rattle.state_tables.proofs.ZeroLaws.{zero-cut}
 use Rattle.state_valid.proofs.ReadSizes.{read-size, port-wide, flow-wide, session-wide}
 use Rattle.state_valid.proofs.SameImage.{same-image}
+use Rattle.state_valid.proofs.TableEnd.{table-end}
 
 module _ (l : List ℕ) (o : Octets l) (long : length l ≡ 4096) where
   abbrev s : State
@@ -42,9 +43,9 @@ module _ (l : List ℕ) (o : Octets l) (long : length l ≡ 4096) where
   unfolding stateOf
   flows-read = rows-within 32 32 1024 flowIn (omega arith) flow-within (drop 256 l) (omega arith)
 
-  pub sessions-read : rowsIn 16 32 sessionIn (take 512 (drop 1536 l)) ≡ s .sessions
+  pub sessions-read : rowsIn 16 32 sessionIn (take 2560 (drop 1536 l)) ≡ s .sessions
   unfolding stateOf
-  sessions-read = rows-within 16 32 512 sessionIn (omega arith) session-within (drop 1536 l) (omega arith)
+  sessions-read = rows-within 16 32 2560 sessionIn (omega arith) session-within (drop 1536 l) (omega arith)
 
   none : Bare s
   none = bare s
@@ -100,11 +101,15 @@ module _ (l : List ℕ) (o : Octets l) (long : length l ≡ 4096) where
       && (same (table 128 portRow (plan .ports)) (take 128 (drop 128 l))
       && (same (table 1024 flowRow (plan .flows)) (take 1024 (drop 256 l))
       && (allZero (take 256 (drop 1280 l))
-      && (same (table 512 sessionRow (s .sessions)) (take 512 (drop 1536 l))
-      && allZero (take 2048 (drop 2048 l)))))))))))
+      && same (table 2560 sessionRow (s .sessions)) (take 2560 (drop 1536 l))))))))))
   unfolding okImage valid
   image-law =
-      rw (zero-cut 4 4 24 l, zero-cut 8 8 16 l, zero-cut 1280 192 64 l)
+      rw (
+        zero-cut 4 4 24 l,
+        zero-cut 8 8 16 l,
+        zero-cut 1280 192 64 l,
+        table-end sessionRow 512 2048 (s .sessions) (sizes .sessions-size) 1536 l (omega arith),
+      )
       (simp (
         same-image s l sizes,
         clock-same,

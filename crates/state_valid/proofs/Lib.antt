@@ -1,6 +1,7 @@
 pub mod SessionsLaw
 pub mod SameImage
 pub mod ReadSizes
-pub mod ImageLaw
+pub mod TableEnd
+mod ImageLaw
 pub mod TestLaw
 pub mod SessionTest

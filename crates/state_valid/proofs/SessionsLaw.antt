@@ -64,9 +64,9 @@ module _ (b : List ℕ)
   unfolding sessionFits
   fit last l o h some = rw (session-exact l o h, session-key-in l, good-in (sessionIn l) (source-fits l o))
 
-  pub sessions-law : (t : List ℕ) → Octets t → length t ≡ 512
+  pub sessions-law : (t : List ℕ) → Octets t → length t ≡ 2560
       → let xs = rowsIn 16 32 sessionIn t in
-      okSessions b t ≡ ((ascends keyOf 0 xs && every (goodSession (stateOf b)) xs) && same (table 512 sessionRow xs) t)
+      okSessions b t ≡ ((ascends keyOf 0 xs && every (goodSession (stateOf b)) xs) && same (table 2560 sessionRow xs) t)
   unfolding okSessions
   sessions-law t o h =
       let pass : _

@@ -26,18 +26,18 @@ use Rattle.state_valid.specs.Sessions.{okSessions}
 use Rattle.state_valid.proofs.SessionsLaw.{sessions-law}
 use Rattle.state_valid.proofs.ImageLaw.{ports-read, flows-read, sessions-read, part-long, image-law}
 
-module _ (z1 z2 z3 z4 p1 p2 p3 address t1 : Bool) where
+module _ (z1 z2 z3 p1 p2 p3 address t1 : Bool) where
   -- the test that later ones rest on, before them
   ports-first : (flows allowed sessions : Bool)
-      → ((z1 && z2 && z3 && z4) && ((p1 && p2 && p3 && t1) && address && flows) && allowed && sessions)
-      ≡ (p1 && p2 && z1 && z2 && z3 && z4 && address && t1 && (p3 && (flows && (allowed && sessions))))
+      → ((z1 && z2 && z3) && ((p1 && p2 && p3 && t1) && address && flows) && allowed && sessions)
+      ≡ (p1 && p2 && z1 && z2 && z3 && address && t1 && (p3 && (flows && (allowed && sessions))))
   ports-first flows allowed sessions = simp (and-assoc, and-comm, and-left-comm)
 
   as-image : (f1 f2 f3 f4 allowed octets s1 s2 pl t2 t3 : Bool)
-      → (p1 && p2 && z1 && z2 && z3 && z4 && address && t1
+      → (p1 && p2 && z1 && z2 && z3 && address && t1
       && (p3 && ((f1 && f2 && f3 && f4 && (pl && t2)) && (allowed && octets && ((s1 && s2) && t3)))))
       ≡ ((p1 && (p2 && p3 && address && f1 && f2 && f3 && f4) && allowed && s1 && s2)
-      && (z1 && (octets && (pl && (z2 && (t1 && (t2 && (z3 && (t3 && z4)))))))))
+      && (z1 && (octets && (pl && (z2 && (t1 && (t2 && (z3 && t3))))))))
   as-image f1 f2 f3 f4 allowed octets s1 s2 pl t2 t3 = simp (and-assoc, and-comm, and-left-comm)
 
 module _ (l : List ℕ) (o : Octets l) (long : length l ≡ 4096) where
@@ -61,7 +61,7 @@ module _ (l : List ℕ) (o : Octets l) (long : length l ≡ 4096) where
   t2 = same (table 1024 flowRow (plan .flows)) (take 1024 (drop 256 l))
 
   abbrev t3 : Bool
-  t3 = same (table 512 sessionRow (s .sessions)) (take 512 (drop 1536 l))
+  t3 = same (table 2560 sessionRow (s .sessions)) (take 2560 (drop 1536 l))
 
   -- does what is read keep the rules?
   abbrev goodFlows : Bool
@@ -76,7 +76,7 @@ module _ (l : List ℕ) (o : Octets l) (long : length l ≡ 4096) where
 
   -- the tests behind the flows'
   abbrev rest : Bool
-  rest = okAllowed (take 32 (drop 32 l)) (take 32 (drop 64 l)) && okSessions l (take 512 (drop 1536 l))
+  rest = okAllowed (take 32 (drop 32 l)) (take 32 (drop 64 l)) && okSessions l (take 2560 (drop 1536 l))
 
   abbrev goodRest : Bool
   goodRest = onlyFlows plan 1 (s .allowed) && al && (goodSessions && t3)
@@ -94,11 +94,11 @@ module _ (l : List ℕ) (o : Octets l) (long : length l ≡ 4096) where
   behind-flows e =
       let a : _ = both-true goodFlows (pl && t2) e in
       let placed : pl ≡ true = both-true pl t2 (a .1) .0 in
-      let t : List ℕ = take 512 (drop 1536 l) in
-      let ot : Octets t = octets-take 512 (drop 1536 l) (octets-drop 1536 l o) in
+      let t : List ℕ = take 2560 (drop 1536 l) in
+      let ot : Octets t = octets-take 2560 (drop 1536 l) (octets-drop 1536 l o) in
       rw (
         allowed-law plan (take 32 (drop 32 l)) (take 32 (drop 64 l)) (part-long l o long 32 32 (omega arith)) placed,
-        sessions-law l placed (known-numbers (a .0)) t ot (part-long l o long 1536 512 (omega arith)),
+        sessions-law l placed (known-numbers (a .0)) t ot (part-long l o long 1536 2560 (omega arith)),
         sessions-read l o long,
       )
 
@@ -113,20 +113,18 @@ module _ (l : List ℕ) (o : Octets l) (long : length l ≡ 4096) where
   pub test-law
       : ((allZero (take 28 (drop 4 l))
       && allZero (take 32 (drop 96 l))
-      && allZero (take 256 (drop 1280 l))
-      && allZero (take 2048 (drop 2048 l)))
+      && allZero (take 256 (drop 1280 l)))
       && (okPorts (take 128 (drop 128 l))
       && distinct (map (λ p. p .address) (rowsIn 8 16 portIn (take 128 (drop 128 l))))
       && okFlows l (take 1024 (drop 256 l)))
       && okAllowed (take 32 (drop 32 l)) (take 32 (drop 64 l))
-      && okSessions l (take 512 (drop 1536 l)))
+      && okSessions l (take 2560 (drop 1536 l)))
       ≡ okImage l
   unfolding keepsRules soFar
   test-law =
       let z1 : Bool = allZero (take 28 (drop 4 l)) in
       let z2 : Bool = allZero (take 32 (drop 96 l)) in
       let z3 : Bool = allZero (take 256 (drop 1280 l)) in
-      let z4 : Bool = allZero (take 2048 (drop 2048 l)) in
       let p1 : Bool = leb 1 (length (plan .ports)) in
       let p2 : Bool = ascends (λ p. p .number) 0 (plan .ports) in
       let p3 : Bool = every goodPort (plan .ports) in
@@ -134,9 +132,9 @@ module _ (l : List ℕ) (o : Octets l) (long : length l ≡ 4096) where
       let t : List ℕ = take 128 (drop 128 l) in
       let ot : Octets t = octets-take 128 (drop 128 l) (octets-drop 128 l o) in
       rw (ports-law t ot (part-long l o long 128 128 (omega arith)), ports-read l o long, image-law l o long)
-      (ports-first z1 z2 z3 z4 p1 p2 p3 ad t1 _ _ _
-      ∙ ap (λ (q : Bool). p1 && p2 && z1 && z2 && z3 && z4 && ad && t1 && q) (and-when p3 behind-ports)
-      ∙ as-image z1 z2 z3 z4 p1 p2 p3 ad t1 _ _ _ _ _ al _ _ pl t2 t3)
+      (ports-first z1 z2 z3 p1 p2 p3 ad t1 _ _ _
+      ∙ ap (λ (q : Bool). p1 && p2 && z1 && z2 && z3 && ad && t1 && q) (and-when p3 behind-ports)
+      ∙ as-image z1 z2 z3 p1 p2 p3 ad t1 _ _ _ _ _ al _ _ pl t2 t3)
 
 pub short-law : (l : List ℕ) → (length l ≡ 4096 → ⊥) → okImage l ≡ false
 short-law l other = go (okImage l) refl

@@ -13,7 +13,6 @@ use state::PORT_COUNTERS_AT;
 use state::PORTS_AT;
 use state::PORTS_OPEN_AT;
 use state::SESSIONS_AT;
-use state::SESSIONS_END;
 use state::SHARED_ADDRESS_AT;
 use state::UNIT_FLAG_AT;
 use state_tables::addresses_differ;
@@ -46,21 +45,18 @@ fn head_zero(b: &[u8]) -> bool
     low8(b, LATER_PORTS_OPEN_AT) == 0
 }
 
-// Are the octets 0 that have no meaning yet, before and behind the flows' marks and before and behind the sessions?
+// Are the octets 0 that have no meaning yet, before and behind the flows' marks and before the sessions?
 fn free_zero(b: &[u8]) -> bool
     requires { ⌜ length (now b) ≡ 4096 ⌝ }
     ensures { λ r. ⌜ r
         ≡ (allZero (take 28 (drop 4 (now (b .entry))))
         && allZero (take 32 (drop 96 (now (b .entry))))
-        && allZero (take 256 (drop 1280 (now (b .entry))))
-        && allZero (take 2048 (drop 2048 (now (b .entry)))))
+        && allZero (take 256 (drop 1280 (now (b .entry)))))
         ⌝ }
 {
     if head_zero(b) {
         if all_zero(&b[PLACES_END..PORTS_AT]) {
-            if all_zero(&b[PORT_COUNTERS_AT..SESSIONS_AT]) {
-                return all_zero(&b[SESSIONS_END..IMAGE_LENGTH]);
-            }
+            return all_zero(&b[PORT_COUNTERS_AT..SESSIONS_AT]);
         }
     }
     false
@@ -91,7 +87,7 @@ pub fn is_image(b: &[u8]) -> bool
     if free_zero(b) {
         if plan_fits(b) {
             if allowed_fits(&b[ALLOWED_AT..PLACES_AT], &b[PLACES_AT..PLACES_END]) {
-                return sessions_fit(b, &b[SESSIONS_AT..SESSIONS_END]);
+                return sessions_fit(b, &b[SESSIONS_AT..IMAGE_LENGTH]);
             }
         }
     }

@@ -37,6 +37,9 @@ ghost use Rattle.state_valid.specs.Sessions.{goodIn, sessionFits, okSess
 // The milliseconds of a day.
 const DAY: u32 = 86400000;
 
+// How many octets the rows have together.
+const SESSIONS_LENGTH: usize = 512;
+
 fn tag_type(kind: u8) -> u64
     ensures { λ r. ⌜ r ≡ cond (eqb kind c-tagged) c-tag s-tag ⌝ }
 {
@@ -135,8 +138,9 @@ fn session_fits(b: &[u8], t: &[u8], at: usize, last: u64) -> bool
     false
 }
 
+// The sessions' rows, and all that stands behind them.
 pub fn sessions_fit(b: &[u8], t: &[u8]) -> bool
-    requires { ⌜ (length (now b) ≡ 4096) × (length (now t) ≡ 512) ⌝ }
+    requires { ⌜ (length (now b) ≡ 4096) × (length (now t) ≡ 2560) ⌝ }
     ensures { λ r. ⌜ r ≡ okSessions (now (b .entry)) (now (t .entry)) ⌝ }
 {
     let mut i: usize = 0;
@@ -154,5 +158,5 @@ pub fn sessions_fit(b: &[u8], t: &[u8]) -> bool
             return false;
         }
     }
-    true
+    rest_zero(t, SESSIONS_LENGTH, LONG_RUN)
 }

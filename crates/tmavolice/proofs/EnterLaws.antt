@@ -14,7 +14,9 @@ use Rattle.calls.specs.declared.Answer.{Answer}
 use Rattle.calls.specs.declared.Answer.the-variants.{Refused, Done}
 use Rattle.calls.specs.Answer.{leaves, numberOf}
 use Rattle.calls.specs.Calls.{Call, refusal, served, lent, handed, call, Entered, makes, stored, enter}
+use Rattle.calls.specs.Codes.{codesSent, Replies, saysReply}
 use Rattle.calls.proofs.Alone.{refused-8-alone, refused-image-alone}
+use Rattle.calls.proofs.CodesSent.{entered-codes}
 use Rattle.calls_requests.specs.Arrival.{Served}
 use Rattle.tmavolice.specs.Outcome.{Outcome}
 use Rattle.tmavolice.specs.Checks.{checked, Checked}
@@ -71,3 +73,8 @@ done s e = record { answered = refl; stored = e; written = refl }
 pub answers-agree : {x : Entered} {n n′ : ℕ} {left left′ out out′ : List ℕ} → Outcome x n left out → Outcome x n′ left′ out′
     → (n ≡ n′) × ((left ≡ left′) × (out ≡ out′))
 answers-agree p q = (p .answered ∙ sym (q .answered), (p .stored ∙ sym (q .stored), p .written ∙ sym (q .written)))
+
+-- An entry whose number says reply has written a reply with one of the codes that are sent.
+pub entries-codes : (l : List ℕ) (c : Call) {n : ℕ} {left out : List ℕ} → Outcome (enter l c) n left out → saysReply n ≡ true
+    → Replies codesSent (lent c) out
+entries-codes l c o h = rw (o .written) (entered-codes l c (rw (o .answered) at h))

@@ -3,12 +3,11 @@ use mathlib.Core.Path.{_≡_, refl}
 use mathlib.Core.Bool.{Bool, true, false}
 use mathlib.Core.List.{List, [], _∷_, _++_, map}
 use Prim.Native.Nat.{ℕ}
-use Prim.Native.String.{String}
 use lib.ListN.{length, set, take, drop}
 use lib.Dec.{leb}
 use Rattle.octets.specs.Octets.{lowNumber, lowOctets, same}
 use Rattle.octets.specs.Lists.{every, some, count}
-use Rattle.octets.specs.Text.{text, digit, hexed, hex}
+use Rattle.octets.specs.Text.{hex}
 use Rattle.codec.specs.FrameSet.{external, cen}
 use Rattle.state.specs.State.{State}
 use Rattle.state.specs.Image.{zeros, portRow, flowRow, sessionRow, rows, table, rowsIn, placeFrom, places, bit, head, image}
@@ -42,24 +41,24 @@ unfolding yardImage benchState
 a-valid-image-is-taken = refl
 
 -- Do these octets stand at this place?
-standsIn : List ℕ → ℕ × String → Bool
-unfolding same hex hexed digit text
-standsIn l (at, row) = same (take (length (hex row)) (drop at l)) (hex row)
+standsIn : List ℕ → ℕ × List ℕ → Bool
+unfolding same
+standsIn l (at, row) = same (take (length row) (drop at l)) row
 
 -- the example of docs/LAYOUT.md
-benchOctets : List (ℕ × String)
+benchOctets : List (ℕ × List ℕ)
 benchOctets =
-    (0, "00 00 00 00")
-    ∷ (32, "01 00")
-    ∷ (64, "01 02 00")
-    ∷ (128, "01 00 00 00 00 02 01 01")
-    ∷ (256, "00 01 00 00 14 00 02 01 00 00 00 00 01 00 00 00")
-    ∷ (288, "00 02 00 00 1E 00 02 01 00 00 00 00 00 00 00 00")
-    ∷ (1536, "AA 00 00 00 00 02 01 00 60 EA 00 00 00 04 01 04 14 00 00 81 00 00 00 00 00 00 00 00 00 00 00 00")
+    (0, hex "00 00 00 00")
+    ∷ (32, hex "01 00")
+    ∷ (64, hex "01 02 00")
+    ∷ (128, hex "01 00 00 00 00 02 01 01")
+    ∷ (256, hex "00 01 00 00 14 00 02 01 00 00 00 00 01 00 00 00")
+    ∷ (288, hex "00 02 00 00 1E 00 02 01 00 00 00 00 00 00 00 00")
+    ∷ (1536, hex "AA 00 00 00 00 02 01 00 60 EA 00 00 00 04 01 04 14 00 00 81 00 00 00 00 00 00 00 00 00 00 00 00")
     ∷ []
 
 the-bench-image : every (standsIn (image benchState)) benchOctets ≡ true
-unfolding yardImage benchState standsIn benchOctets every
+unfolding yardImage benchState standsIn benchOctets every hex
 the-bench-image = refl
 
 the-other-octets-are-zero : count (leb 1) (image benchState) ≡ 26
@@ -67,21 +66,21 @@ unfolding yardImage benchState count
 the-other-octets-are-zero = refl
 
 -- rows in ascending key, whatever the flows' numbers
-yardOctets : List (ℕ × String)
+yardOctets : List (ℕ × List ℕ)
 yardOctets =
-    (0, "04 03 02 01 00")
+    (0, hex "04 03 02 01 00")
     -- flows 1, 3 and 4 are allowed; rows 2, 3, 1 and 4 are those of flows 1 to 4
-    ∷ (31, "00 01 00 01 01 00")
-    ∷ (63, "00 02 03 01 04 00")
-    ∷ (144, "02 00 00 00 00 02 02 02 00 00 00 00 00 00 00 00 00")
-    ∷ (255, "00 00 03 00 00 00 00 01 01 00 00 03 00 00 00 00 00")
-    ∷ (288, "00 01 00 00 14 00 02 01 00 00 00 00 01 00 00 00 00")
-    ∷ (352, "00 04 00 00 14 00 03 02 00 00 00 00 03 00 00 00 00")
-    ∷ (1568, "BB 00 00 00 00 02 03 00 00 00 00 00 08 02 00 00 00 00 00 00 00 00 00 00 00 00 00 00 00 00 00 00 00")
+    ∷ (31, hex "00 01 00 01 01 00")
+    ∷ (63, hex "00 02 03 01 04 00")
+    ∷ (144, hex "02 00 00 00 00 02 02 02 00 00 00 00 00 00 00 00 00")
+    ∷ (255, hex "00 00 03 00 00 00 00 01 01 00 00 03 00 00 00 00 00")
+    ∷ (288, hex "00 01 00 00 14 00 02 01 00 00 00 00 01 00 00 00 00")
+    ∷ (352, hex "00 04 00 00 14 00 03 02 00 00 00 00 03 00 00 00 00")
+    ∷ (1568, hex "BB 00 00 00 00 02 03 00 00 00 00 00 08 02 00 00 00 00 00 00 00 00 00 00 00 00 00 00 00 00 00 00 00")
     ∷ []
 
 the-yard-image : every (standsIn yardImage) yardOctets ≡ true
-unfolding yardImage standsIn yardOctets every
+unfolding yardImage standsIn yardOctets every hex
 the-yard-image = refl
 
 -- one octet set to another value

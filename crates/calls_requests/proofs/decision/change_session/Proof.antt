@@ -1,4 +1,6 @@
 use mathlib.Core.Logic.{inl, inr, ⊎-elim}
+use native.Mathlib.Omega.{arith}
+use Rattle.state.proofs.Inside.{session-fits}
 use Rattle.state.proofs.ImageLaws.{ok-length}
 use Rattle.calls_requests.proofs.Stored.{Keeps, keeps-active, same-left, closed-left, kept-left}
 use borrow.Author.Needs.{needs}
@@ -11,7 +13,7 @@ keeps c = ⊎-elim (λ w. inl (rw (w .3) (w .1 .given .1))) (λ w. inr (rw (w .3
 remove-session-requires : tie.Need-remove-session-requires
 remove-session-requires c κs =
     let p : _ = c .before .before .before .before .pre .0 in
-    (ok-length _ (p .0), p .1)
+    (ok-length _ (p .0), omega (arith, session-fits _ _ (p .1)))
 
 put-session-requires : tie.Need-put-session-requires
 put-session-requires c κs =
@@ -20,20 +22,23 @@ put-session-requires c κs =
     (ok-length _ (p .0 .0), (f .source-fits, f .found))
 
 returns : tie.Need-returns
-returns c = λ key er. same-left _ (c .before .before .before .pre .0 .0) key (c .enum-told .given .1)
+returns c =
+    let s : _ = c .before .before .before in
+    same-left _ (s .pre .0 .0) (s .args .key) (c .enum-told .given .1)
 
 returns-2 : tie.Need-returns-2
 returns-2 c =
     let k : _ = c .before .before .before .before in
-    λ key er.
-    closed-left _ (k .before .before .before .pre .0 .0) key (k .enum-told2 .given .1) er (c .before .before .remove-session .ensures)
+    let s : _ = k .before .before .before in
+    closed-left _ (s .pre .0 .0) (s .args .key) (k .enum-told2 .given .1) (s .pre .0 .1) (c .before .before .remove-session .ensures)
 
 returns-3 : tie.Need-returns-3
 returns-3 c =
     let m : _ = c .before .before .before .before in
-    let p : _ = m .before .before .pre in
+    let s : _ = m .before .before in
+    let p : _ = s .pre in
     let f : _ = p .1 (m .match .x) (keeps-active (keeps m)) in
-    λ key er. kept-left _ (p .0 .0) key _ (c .before .before .put-session .ensures) (f .room) (keeps m)
+    kept-left _ (p .0 .0) (s .args .key) _ (c .before .before .put-session .ensures) (f .room) (keeps m)
 
 pub change-session-spec : {M : Type 1} → statement M
 change-session-spec =

@@ -34,7 +34,7 @@ returns-2 c =
     let k : _ = s .pre .0 in
     decision-right (stateOf (now (a .b))) (arrivedIn (now (a .b)) (a .a) (now (a .frame))) (a .request)
     (q .asked-of .ensures .0) (a .m) (t .before .before .if1 .left) (q .asked-of .ensures .1) (allowed-is k ∙ s .pre .1 .0)
-    (s .pre .1 .1) (c .before .before .new-session .ensures ∙ session-is k) (t .before .condition-of .ensures .0) (t .action .ensures)
+    (s .pre .1 .1 .0) (c .before .before .new-session .ensures ∙ session-is k (s .pre .1 .1 .1)) (t .before .condition-of .ensures .0) (t .action .ensures)
     (c .before .full-at .ensures) (c .decide .ensures)
 
 pub decides-spec : {M : Type 1} → statement M

@@ -19,30 +19,31 @@ returns : tie.Need-returns
 returns c =
     let k : _ = c .before .before .before in
     let s : _ = k .before .before .before .before .before .before in
-    short-served (s .pre .0) _ (s .args .whom) (sym (allowed k) ∙ c .before .before .if1 .taken) (c .if2 .taken)
+    short-served (s .pre .0) (s .pre .1 .1) _ (s .args .whom) (sym (allowed k) ∙ c .before .before .if1 .taken) (c .if2 .taken)
 
 answers-requires : tie.Need-answers-requires
 answers-requires c κs =
     let k : _ = c .before .before .before .before .before in
-    (k .before .before .before .before .before .before .pre, (sym (allowed k) ∙ c .before .before .before .before .if1 .taken, c .before .before .if2 .left))
+    let p : _ = k .before .before .before .before .before .before .pre in
+    ((p .0, p .1 .0), (sym (allowed k) ∙ c .before .before .before .before .if1 .taken, (c .before .before .if2 .left, p .1 .1)))
 
 returns-2 : tie.Need-returns-2
 returns-2 c =
     let k : _ = c .before .before .before .before .before .before .before .before .before .before in
     let s : _ = k .before .before .before .before .before .before in
-    long-served (s .pre .0) (now (s .args .out)) (s .args .whom) (sym (allowed k) ∙ c .before .before .before .before .before .before .before .before .before .if1 .taken) (c .before .before .before .before .before .before .before .if2 .left) (c .before .before .before .before .answers .ensures)
+    long-served (s .pre .0) (s .pre .1 .1) (now (s .args .out)) (s .args .whom) (sym (allowed k) ∙ c .before .before .before .before .before .before .before .before .before .if1 .taken) (c .before .before .before .before .before .before .before .if2 .left) (c .before .before .before .before .answers .ensures)
 
 returns-3 : tie.Need-returns-3
 returns-3 c =
     let k : _ = c .before .before .before in
     let s : _ = k .before .before .before .before .before .before in
-    forwarded-served (s .pre .0) _ (s .args .whom) (sym (allowed k) ∙ c .before .before .if1 .left) (c .before .goes-on .ensures) (c .if3 .taken)
+    forwarded-served (s .pre .0) (s .pre .1 .1) _ (s .args .whom) (sym (allowed k) ∙ c .before .before .if1 .left) (c .before .goes-on .ensures) (c .if3 .taken)
 
 returns-4 : tie.Need-returns-4
 returns-4 c =
     let k : _ = c .before .before .before in
     let s : _ = k .before .before .before .before .before .before in
-    dropped-served (s .pre .0) _ (s .args .whom) (sym (allowed k) ∙ c .before .before .if1 .left) (c .before .goes-on .ensures) (c .if3 .left)
+    dropped-served (s .pre .0) (s .pre .1 .1) _ (s .args .whom) (sym (allowed k) ∙ c .before .before .if1 .left) (c .before .goes-on .ensures) (c .if3 .left)
 
 pub serve-request-spec : {M : Type 1} → statement M
 serve-request-spec =

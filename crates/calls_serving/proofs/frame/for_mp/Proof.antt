@@ -1,21 +1,13 @@
-use mathlib.Core.Path.{sym, ap, _∙_}
-use native.Mathlib.Omega.{arith}
-use denote.Ref.{now}
-use lib.ListN.{length-drop}
-use Rattle.codec.specs.FrameSet.{pduOf}
-use Rattle.calls_requests.proofs.Arrivals.{level-is, kind-is}
-use Rattle.calls_serving.proofs.FrameLaws.{no-request, no-mp, at-mp, pdu-long}
+use Rattle.calls_serving.proofs.FrameLaws.{no-request, no-mp, at-mp}
 use borrow.Author.Needs.{needs}
 use Rattle.calls_serving.proofs.frame.for_mp.Statement.{statement}
 use Rattle.calls_serving.proofs.frame.for_mp.Tie as tie
 
 returns : tie.Need-returns
 returns c =
-    let s : _ = c .before .before .before .before .before .before .before .before in
-    let f : _ = now (s .args .frame) in
     λ b k.
     at-mp k (c .before .before .before .before .before .if1 .taken) (c .before .before .before .before .faces .ensures) (c .before .before .before .if2 .taken)
-    (c .addressed-to .ensures (pduOf (s .args .a .taglen) f) (level-is k) (kind-is k) (pdu-long (s .args .a .taglen) f))
+    (c .addressed-to .ensures)
 
 returns-2 : tie.Need-returns-2
 returns-2 c = λ b k. no-mp k (c .before .before .if1 .taken) (c .before .faces .ensures) (c .if2 .left)

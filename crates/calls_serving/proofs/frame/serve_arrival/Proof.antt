@@ -9,16 +9,19 @@ use Rattle.codec.specs.declared.Addressed.the-variants.{Elsewhere, Unicast, Mul
 use Rattle.codec.proofs.Addressed.{the-type}
 use Rattle.state.specs.State.{State}
 use Rattle.calls.specs.Frame.{Arrived, byWhom, requestServed}
-use Rattle.calls_serving.proofs.FrameLaws.{by-whom}
+use Rattle.calls_serving.proofs.FrameLaws.{for-oam, by-whom}
 use borrow.Author.Needs.{needs}
 use Rattle.calls_serving.proofs.frame.serve_arrival.Statement.{statement}
 use Rattle.calls_serving.proofs.frame.serve_arrival.Tie as tie
+
+not-elsewhere : (whom : Addressed) → OneOf (1 ∷ 2 ∷ []) (tagOf the-type whom) → whom ≡ Elsewhere → ⊥
+not-elsewhere whom k e = ⊎-elim (λ z. omega (arith, z)) (λ z. omega (arith, z)) (rw e at k)
 
 -- either of the two that are here is asked
 asked : (s : State) (x : Arrived) (whom : Addressed) → OneOf (1 ∷ 2 ∷ []) (tagOf the-type whom)
     → byWhom s x whom ≡ requestServed s x whom
 unfolding byWhom
-asked s x Elsewhere k = absurd (⊎-elim (λ e. omega (arith, e)) (λ e. omega (arith, e)) k)
+asked s x Elsewhere k = absurd (not-elsewhere Elsewhere k refl)
 asked s x Unicast k = refl
 asked s x Multicast k = refl
 
@@ -31,7 +34,11 @@ serve-data-requires : tie.Need-serve-data-requires
 serve-data-requires c κs = c .before .before .before .before .before .before .before .before .pre
 
 serve-request-requires : tie.Need-serve-request-requires
-serve-request-requires c κs = c .before .before .before .before .before .before .before .pre
+serve-request-requires c κs =
+    let m : _ = c .before .before in
+    let f : _ = m .before in
+    let p : _ = f .before .before .before .before .pre in
+    (p .0, (p .1, for-oam (p .0) (λ e. not-elsewhere (f .for-mp .result) (m .match .keys2) (f .for-mp .ensures _ (p .0) ∙ e))))
 
 returns : tie.Need-returns
 unfolding byWhom

@@ -1,58 +1,45 @@
-use mathlib.Core.Path.{_≡_, sym, ap, _∙_}
+use mathlib.Core.Path.{sym, _∙_}
 use borrow.Author.Tests.{lt-leb, le-leb, eq-eqb, ne-eqb}
 use borrow.Author.Needs.{needs}
-use Rattle.codec.specs.Request.{addressed, class2}
 use Rattle.codec.proofs.pdu.addressed_to.Statement.{statement}
 use Rattle.codec.proofs.pdu.addressed_to.Tie as tie
 
 returns : tie.Need-returns
-unfolding addressed
-returns c = λ pdu el ek en. simp (eq-eqb _ _ (c .if1 .taken))
+returns c = simp (eq-eqb _ _ (c .if1 .taken))
 
 returns-2 : tie.Need-returns-2
-unfolding addressed
 returns-2 c =
     let m : _ = c .before .before .class2-of .ensures in
-    λ pdu el ek en.
-    rw (← el) (simp (ne-eqb _ _ (c .before .before .before .if1 .left), ne-eqb _ _ (λ z. c .if2 .taken (z ∙ sym m))))
+    simp (ne-eqb _ _ (c .before .before .before .if1 .left), ne-eqb _ _ (λ z. c .if2 .taken (z ∙ sym m)))
 
 returns-3 : tie.Need-returns-3
-unfolding addressed
 returns-3 c =
     let i : _ = c .before .before in
-    λ pdu el ek en.
-    rw (← el, ← ek)
-    (simp (
+    simp (
       ne-eqb _ _ (i .before .before .before .if1 .left),
       eq-eqb _ _ (i .if2 .left ∙ i .before .before .class2-of .ensures),
       ne-eqb _ _ (c .if3 .taken),
-    ))
+    )
 
 returns-4 : tie.Need-returns-4
-unfolding addressed
 returns-4 c =
     let i : _ = c .before .before .before in
-    λ pdu el ek en.
-    rw (← el, ← ek, ← en)
-    (simp (
+    simp (
       ne-eqb _ _ (i .before .before .before .if1 .left),
       eq-eqb _ _ (i .if2 .left ∙ i .before .before .class2-of .ensures),
       eq-eqb _ _ (c .before .if3 .left),
       lt-leb _ _ (c .if4 .taken),
-    ))
+    )
 
 returns-5 : tie.Need-returns-5
-unfolding addressed
 returns-5 c =
     let i : _ = c .before .before .before in
-    λ pdu el ek en.
-    rw (← el, ← ek, ← en)
-    (simp (
+    simp (
       ne-eqb _ _ (i .before .before .before .if1 .left),
       eq-eqb _ _ (i .if2 .left ∙ i .before .before .class2-of .ensures),
       eq-eqb _ _ (c .before .if3 .left),
       le-leb _ _ (c .if4 .left),
-    ))
+    )
 
 pub addressed-to-spec : {M : Type 1} → statement M
 addressed-to-spec = tie.close (tie.spec returns (search needs) returns-2 returns-3 returns-4 returns-5)

@@ -5,10 +5,7 @@ use Rattle.codec.proofs.pdu.is_request.Tie as tie
 
 returns : tie.Need-returns
 unfolding opcodeOf octet
-returns c = simp (c .before .if1 .taken, c .octet-at .ensures)
-
-returns-2 : tie.Need-returns-2
-returns-2 c = simp (c .if1 .left)
+returns c = rw (c .octet-at .ensures)
 
 pub is-request-spec : {M : Type 1} → statement M
-is-request-spec = tie.close (tie.spec (search needs) returns returns-2)
+is-request-spec = tie.close (tie.spec (search needs) returns)

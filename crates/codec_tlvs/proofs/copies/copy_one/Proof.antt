@@ -3,6 +3,7 @@ use mathlib.Core.List.{List, [], _∷_, _++_}
 use Prim.Native.Nat.{ℕ, _+_}
 use native.Mathlib.Omega.{arith}
 use lib.ListN.{length, getD}
+use borrow.Author.Tests.{not-true, not-false}
 use denote.Ref.{now}
 use Rattle.octets.proofs.Over.{then-splice, splice-none}
 use Rattle.codec_tlvs.specs.Walk.{kept}
@@ -14,7 +15,7 @@ use Rattle.codec_tlvs.proofs.copies.copy_one.Tie as tie
 returns : tie.Need-returns
 returns c =
     let a : _ = c .before .before .before .before .args in
-    let e : _ = kept-none (a .kind) (now (a .value)) (sym (c .before .is-timer .ensures) ∙ c .if1 .taken) in
+    let e : _ = kept-none (a .kind) (now (a .value)) (sym (c .before .is-unknown .ensures) ∙ not-true _ (c .if1 .taken)) in
     (omega (arith, ap length e), rw e (sym (splice-none (a .n) (now (a .out)))))
 
 -- the three octets that go before the value
@@ -29,7 +30,7 @@ head c =
 whole : (c : tie.After-octets2)
     → kept (c .before .before .before .before .before .args .kind) (now (c .before .before .before .before .before .args .value))
     ≡ head c ++ now (c .before .before .before .before .before .args .value)
-whole c = kept-all _ _ (sym (c .before .before .is-timer .ensures) ∙ c .before .if1 .left) (c .octets2 .ensures)
+whole c = kept-all _ _ (sym (c .before .before .is-unknown .ensures) ∙ not-false _ (c .before .if1 .left)) (c .octets2 .ensures)
 
 put-at-requires : tie.Need-put-at-requires
 put-at-requires c κs = omega (arith, ap length (whole (c .before .before)))

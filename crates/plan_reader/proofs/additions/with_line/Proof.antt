@@ -6,20 +6,24 @@ use Rattle.plan_reader.proofs.additions.with_line.Tie as tie
 with-port-requires : tie.Need-with-port-requires
 unfolding saidReason
 with-port-requires c κs =
-    (c .before .before .before .pre .0, rw (c .before .line .given .1) at (c .before .before .before .pre .1))
+    let q : _ = c .before .before .before .pre in
+    (q .0, q .1, rw (c .before .line .given .1) at (q .2))
 
 with-flow-requires : tie.Need-with-flow-requires
 unfolding saidReason
 with-flow-requires c κs =
-    (c .before .before .before .pre .0, rw (c .before .line2 .given .1) at (c .before .before .before .pre .1))
+    let q : _ = c .before .before .before .pre in
+    (q .0, q .1, rw (c .before .line2 .given .1) at (q .2))
 
 with-mp-requires : tie.Need-with-mp-requires
 unfolding saidReason
-with-mp-requires c κs = rw (c .before .line3 .given .1) at (c .before .before .before .pre .1)
+with-mp-requires c κs =
+    let q : _ = c .before .before .before .pre in
+    (q .0, rw (c .before .line3 .given .1) at (q .2))
 
 returns : tie.Need-returns
 unfolding saidAdded
-returns c = rw (c .enum-told .given .1)
+returns c = rw (c .enum-told .given .1) (c .before .before .pre .0)
 
 returns-2 : tie.Need-returns-2
 unfolding saidAdded

@@ -1,27 +1,19 @@
 use native.Mathlib.Omega.{arith}
-use Rattle.plan.specs.PlanText.{added}
-use Rattle.plan.specs.Records.{planOf}
-use Rattle.plan_reader.proofs.AddLaws.{port-fits}
+use borrow.Author.Needs.{needs}
+use Rattle.plan_reader.proofs.AddLaws.{PortFits, port-fits, port-added}
 use Rattle.plan_reader.proofs.additions.with_port.Statement.{statement}
 use Rattle.plan_reader.proofs.additions.with_port.Tie as tie
 
-cast-t9 : tie.Need-cast-t9
-cast-t9 c =
+fits : (c : tie.After-ports) → PortFits (c .before .args .r) (c .before .args .number)
+fits c =
     let a : _ = c .before .args in
-    let q : _ = c .before .pre in
-    let f : _ = port-fits (a .r) (q .0) (a .number) (a .address) (q .1) in
-    omega (arith, f .low)
-
-port-put-requires : tie.Need-port-put-requires
-port-put-requires c κs =
-    let a : _ = c .before .args in
-    let q : _ = c .before .pre in
-    let f : _ = port-fits (a .r) (q .0) (a .number) (a .address) (q .1) in
-    (f .named, (f .room, f .new))
+    port-fits (a .r) (c .before .pre .1) (a .number) (a .address) (c .before .pre .2)
 
 returns : tie.Need-returns
-unfolding planOf added
-returns c = rw (c .before .port-put .ensures)
+returns c =
+    let s : _ = c .before .before .before in
+    let a : _ = s .args in
+    port-added (a .r) (s .pre .0) (a .number) (a .kind) (a .address) (fits (c .before .before)) (c .before .port-put .ensures)
 
 pub with-port-spec : {M : Type 1} → statement M
-with-port-spec = tie.close (tie.spec cast-t9 port-put-requires returns)
+with-port-spec = tie.close (tie.spec (λ c. omega (arith, fits c .low)) (search needs) returns)

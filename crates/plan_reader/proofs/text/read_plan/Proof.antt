@@ -1,25 +1,19 @@
-use mathlib.Core.Path.{_≡_, sym, ap, _∙_}
-use mathlib.Core.Bool.{true}
-use mathlib.Core.List.{[]}
+use mathlib.Core.Path.{sym, ap, _∙_}
 use Prim.Native.Nat.{_+_, _-_, _<_, _≤_}
 use native.Mathlib.Omega.{arith}
-use lib.ListN.{length, drop, drop-of-length-le}
+use lib.ListN.{length}
 use borrow.Author.Needs.{needs}
 use borrow.Author.Tests.{lt-ltb, le-ltb}
 use denote.Ref.{now}
-use Rattle.plan.specs.Plan.{soFar}
-use Rattle.plan.specs.Line.{lf, parted}
-use Rattle.plan.specs.PlanText.{readLines, emptyPlan, planIn}
-use Rattle.plan.specs.Records.{planOf}
-use Rattle.plan.proofs.ReadKeeps.{none-so-far}
-use Rattle.plan_reader.proofs.ReadLaws.{cut-off, line-faulty, line-good, line-keeps}
+use Rattle.plan.specs.PlanText.{planIn}
+use Rattle.plan_reader.specs.ReadPlan.{readAs}
+use Rattle.plan_reader.proofs.ReadLaws.{ReadTo, none-read, all-read, cut-off, line-faulty, line-good}
 use Rattle.plan_reader.proofs.text.read_plan.Statement.{statement}
 use Rattle.plan_reader.proofs.text.read_plan.Tie as tie
 
 abbrev Inv-loop : tie.InvT-loop
 Inv-loop text records₀ n₀ at₀ records n at =
-    (at ≤ length text) × (n ≤ at + 1) × (soFar (planOf records) ≡ true)
-    × (readLines n (planOf records) (parted lf (drop at text)) ≡ readLines 1 emptyPlan (parted lf text))
+    (at ≤ length text) × (n ≤ at + 1) × ReadTo text records n at
 
 abbrev μ-loop : tie.MeasureT-loop
 μ-loop text records₀ n₀ at₀ records n at = length text - at
@@ -29,7 +23,7 @@ unfolding planIn
 returns c = rw (lt-ltb _ _ (c .before .if1 .taken)) (c .faulty .ensures)
 
 loop-holds : tie.Need-loop-holds Inv-loop μ-loop
-loop-holds c = (omega arith, omega arith, ap soFar (c .no-records .ensures) ∙ none-so-far, rw (c .no-records .ensures))
+loop-holds c = (omega arith, omega arith, none-read _ _ (c .no-records .ensures))
 
 end-of-requires : tie.Need-end-of-requires Inv-loop μ-loop
 end-of-requires c κs = c .before .loop .inv .0
@@ -43,14 +37,12 @@ returns-2 c =
     let e : _ = found .end-of in
     rw (le-ltb _ _ (short .if1 .left))
     (c .faulty2 .ensures
-    ∙ cut-off (now (short .before .before .args .text)) (l .at) (e .result) (l .n) (planOf (l .records)) (l .inv .3)
-    (e .ensures .0) (e .ensures .1 .0) (found .before .loop-test .taken) (c .before .if2 .taken))
+    ∙ ap readAs
+    (cut-off (now (short .before .before .args .text)) (l .at) (e .result) (l .n) (l .records) (l .inv .2) (e .ensures .0)
+    (e .ensures .1 .0) (found .before .loop-test .taken) (c .before .if2 .taken)))
 
 sub-line-of : tie.Need-sub-line-of Inv-loop μ-loop
 sub-line-of c = c .before .end-of .ensures .1 .0
-
-faulty-requires-3 : tie.Need-faulty-requires-3 Inv-loop μ-loop
-faulty-requires-3 c κs = omega (arith, c .if3 .taken)
 
 returns-3 : tie.Need-returns-3 Inv-loop μ-loop
 unfolding planIn
@@ -62,13 +54,15 @@ returns-3 c =
     let e : _ = found .end-of in
     rw (le-ltb _ _ (short .if1 .left))
     (c .faulty3 .ensures
-    ∙ line-faulty (now (short .before .before .args .text)) (l .at) (e .result) (l .n) (planOf (l .records)) (l .inv .3)
-    (e .ensures .0) (e .ensures .1 .0) (omega (arith, e .ensures .1 .1, cut .if2 .left))
-    (c .before .before .before .line-of .ensures) (c .before .before .reason-of .ensures) (c .before .if3 .taken))
+    ∙ ap readAs
+    (line-faulty (now (short .before .before .args .text)) (l .at) (e .result) (l .n) (l .records) (l .inv .2) (e .ensures .0)
+    (e .ensures .1 .0) (omega (arith, e .ensures .1 .1, cut .if2 .left)) (c .before .before .before .line-of .ensures)
+    (c .before .before .reason-of .ensures) (c .before .if3 .taken)))
 
 with-line-requires : tie.Need-with-line-requires Inv-loop μ-loop
 with-line-requires c κs =
-    (c .before .before .before .before .before .before .before .loop .inv .2, sym (c .before .reason-of .ensures) ∙ c .if3 .left)
+    let w : _ = c .before .before .before .before .before .before .before .loop .inv .2 in
+    (w .value, w .keeps, sym (c .before .reason-of .ensures) ∙ c .if3 .left)
 
 add-n : tie.Need-add-n Inv-loop μ-loop
 add-n c =
@@ -99,23 +93,22 @@ loop-again c =
     let r : _ = c .before .before .reason-of .ensures in (
       omega arith,
       omega (arith, l .inv .1, e .ensures .1 .0),
-      line-keeps t (l .at) (e .result) (l .n) (planOf (l .records)) (l .inv .3) (e .ensures .0) (e .ensures .1 .0) h s r
-          (c .before .if3 .left) (c .with-line .ensures) (l .inv .2),
-      line-good t (l .at) (e .result) (l .n) (planOf (l .records)) (l .inv .3) (e .ensures .0) (e .ensures .1 .0) h s r
+      line-good t (l .at) (e .result) (l .n) (l .records) (l .inv .2) (e .ensures .0) (e .ensures .1 .0) h s r
           (c .before .if3 .left) (c .with-line .ensures),
     )
 
+ended-requires : tie.Need-ended-requires Inv-loop μ-loop
+ended-requires c κs = c .before .loop .inv .2 .value
+
 returns-4 : tie.Need-returns-4 Inv-loop μ-loop
-unfolding planIn parted readLines
+unfolding planIn
 returns-4 c =
-    let t : _ = now (c .before .before .before .before .before .before .args .text) in
-    let l : _ = c .before .before .loop in
-    let z : drop (l .at) t ≡ [] = drop-of-length-le t {i = l .at} (omega arith) in
-    rw (le-ltb _ _ (c .before .before .before .before .if1 .left)) (c .ended .ensures ∙ (rw z at (l .inv .3)))
+    rw (le-ltb _ _ (c .before .before .before .before .if1 .left))
+    (c .ended .ensures ∙ ap readAs (all-read (c .before .before .loop .inv .2) (omega arith)))
 
 pub read-plan-spec : {M : Type 1} → statement M
 read-plan-spec =
     tie.close
     (tie.spec Inv-loop μ-loop (search needs) returns (search needs) loop-holds end-of-requires (search needs) returns-2
-    sub-line-of (search needs) (search needs) (search needs) (search needs) faulty-requires-3 returns-3 with-line-requires add-n
-    add-at loop-less loop-again (search needs) returns-4)
+    sub-line-of (search needs) (search needs) (search needs) (search needs) (search needs) returns-3 with-line-requires add-n
+    add-at loop-less loop-again ended-requires returns-4)

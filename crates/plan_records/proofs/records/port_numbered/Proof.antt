@@ -18,25 +18,18 @@ Inv-loop number ports i₀ i = Sought (λ _. first (λ p. eqb (p .number) number
 abbrev μ-loop : tie.MeasureT-loop
 μ-loop number ports i₀ i = 8 - i
 
-returns : tie.Need-returns Inv-loop μ-loop
-returns c =
-    c .no-port .ensures ∙ seek-none port-rows (first-seeks _ noPort) (c .before .before .before .before .before .loop .inv) _
-    (omega arith) (c .before .if1 .taken)
-
 returns-2 : tie.Need-returns-2 Inv-loop μ-loop
 returns-2 c =
     seek-hit port-rows (first-seeks _ noPort) (c .before .before .before .before .before .before .loop .inv) _ (omega arith)
     (c .before .before .if1 .left) (eq-eqb _ _ (c .if2 .taken))
 
-loop-again : tie.Need-loop-again Inv-loop μ-loop
-loop-again c =
-    seek-on port-rows (first-seeks _ noPort) (c .before .before .before .before .before .before .loop .inv) _ (omega arith)
-    (c .before .before .if1 .left) (ne-eqb _ _ (c .if2 .left))
-
 pub port-numbered-spec : {M : Type 1} → statement M
 port-numbered-spec =
     tie.close
     (tie.spec Inv-loop μ-loop (λ c. record { long = search needs; low = omega arith; same = refl }) (λ c. omega arith)
-    (λ c. omega arith) (search needs) returns (search needs) returns-2 (λ c. omega arith) (λ c. omega arith) loop-again
-    (search needs)
+    (λ c. omega arith) (search needs)
+    (λ c. c .no-port .ensures ∙ seek-none port-rows (first-seeks _ noPort) (c .before .before .before .before .before .loop .inv) _
+    (omega arith) (c .before .if1 .taken)) (search needs) returns-2 (λ c. omega arith) (λ c. omega arith)
+    (λ c. seek-on port-rows (first-seeks _ noPort) (c .before .before .before .before .before .before .loop .inv) _ (omega arith)
+    (c .before .before .if1 .left) (ne-eqb _ _ (c .if2 .left))) (search needs)
     (λ c. c .no-port2 .ensures ∙ seek-end port-rows (first-seeks _ noPort) (c .before .before .loop .inv) (omega arith)))

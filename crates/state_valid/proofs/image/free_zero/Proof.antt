@@ -5,27 +5,14 @@ use Rattle.state_valid.proofs.image.free_zero.Tie as tie
 returns : tie.Need-returns
 returns c =
     rw (
-      ← c .before .before .before .before .before .before .before .before .before .head-zero .ensures,
-      ← c .before .before .before .before .before .before .all-zero .ensures,
-      ← c .before .before .before .all-zero2 .ensures,
-      c .before .before .before .before .before .before .before .before .if1 .taken,
-      c .before .before .before .before .before .if2 .taken,
-      c .before .before .if3 .taken,
-    ) (c .all-zero3 .ensures)
+      ← c .before .before .before .before .before .before .head-zero .ensures,
+      ← c .before .before .before .all-zero .ensures,
+      c .before .before .before .before .before .if1 .taken,
+      c .before .before .if2 .taken,
+    ) (c .all-zero2 .ensures)
 
 returns-2 : tie.Need-returns-2
 returns-2 c =
-    rw (
-      ← c .before .before .before .before .before .before .before .head-zero .ensures,
-      ← c .before .before .before .before .all-zero .ensures,
-      ← c .before .all-zero2 .ensures,
-      c .before .before .before .before .before .before .if1 .taken,
-      c .before .before .before .if2 .taken,
-      c .if3 .left,
-    )
-
-returns-3 : tie.Need-returns-3
-returns-3 c =
     rw (
       ← c .before .before .before .before .head-zero .ensures,
       ← c .before .all-zero .ensures,
@@ -33,12 +20,11 @@ returns-3 c =
       c .if2 .left,
     )
 
-returns-4 : tie.Need-returns-4
-returns-4 c = rw (← c .before .head-zero .ensures, c .if1 .left)
+returns-3 : tie.Need-returns-3
+returns-3 c = rw (← c .before .head-zero .ensures, c .if1 .left)
 
 pub free-zero-spec : {M : Type 1} → statement M
 free-zero-spec =
     tie.close
     (tie.spec (λ c κs. search needs) (λ c. search needs) (λ c. search needs) (λ c. search needs) (λ c κs. search needs)
-    (λ c. search needs) (λ c. search needs) (λ c. search needs) (λ c κs. search needs) (λ c. search needs) (λ c. search needs)
-    (λ c. search needs) (λ c κs. search needs) returns returns-2 returns-3 returns-4)
+    (λ c. search needs) (λ c. search needs) (λ c. search needs) (λ c κs. search needs) returns returns-2 returns-3)

@@ -4,7 +4,7 @@ use Prim.Native.Nat.{_-_}
 use native.Mathlib.Omega.{arith}
 use denote.Ref.{now}
 use Rattle.octets.specs.Octets.{lowNumber}
-use Rattle.state_tables.proofs.TurnLaws.{Passing, ok-start, ok-end, ok-bad, ok-next, ok-done, none-behind}
+use Rattle.state_tables.proofs.TurnLaws.{Passing, ok-start, ok-end, ok-bad, ok-next, ok-done}
 use Rattle.state_valid.specs.Sessions.{sessionFits, okSessions}
 use Rattle.state_valid.proofs.sessions.sessions_fit.Statement.{statement}
 use Rattle.state_valid.proofs.sessions.sessions_fit.Tie as tie
@@ -44,13 +44,15 @@ returns-2 c =
     ok-bad (c .before .before .before .before .before .loop .inv) (omega arith) (c .before .before .before .low8 .ensures)
     (c .before .before .if1 .left) (sym (c .before .session-fits .ensures) ∙ c .if2 .left)
 
+rest-zero-requires-2 : tie.Need-rest-zero-requires-2 Inv-loop μ-loop
+rest-zero-requires-2 c κs = (omega arith, omega arith)
+
 returns-3 : tie.Need-returns-3 Inv-loop μ-loop
 unfolding okSessions
-returns-3 c =
-    rw (none-behind (now (c .before .before .before .before .args .t)) 512 (omega arith)) at (ok-done (c .before .loop .inv) (omega arith))
+returns-3 c = c .rest-zero2 .ensures ∙ ok-done (c .before .before .loop .inv) (omega arith)
 
 pub sessions-fit-spec : {M : Type 1} → statement M
 sessions-fit-spec =
     tie.close
     (tie.spec Inv-loop μ-loop loop-holds (λ c. omega arith) (λ c κs. omega arith) rest-zero-requires returns
-    session-fits-requires (λ c. omega arith) (λ c. omega arith) loop-again returns-2 returns-3)
+    session-fits-requires (λ c. omega arith) (λ c. omega arith) loop-again returns-2 rest-zero-requires-2 returns-3)

@@ -183,7 +183,7 @@ module _ {M : Type 1} (𝓤 : URA M) (H : Heap 𝓤) (A : Atoms 𝓤) (W : Given
         -- [what the value owns; the token; what the slice owns; the token of out; what out owns; the locals]
         land ! (from ! (stop !)) (init ! 9 refl (shr-slice-lawful 𝓤 H A W erased κ u8 .typed w (u ∷ []) isw .0)) $
         calls-copy κ₀ κ q₀ q b o (length out₀) γ s mem run fm known-copy ! (t .out) (t .copying .long) size (t .done) kind w u
-        (done-fits t (size .0)) (has .0 .1) (has-room t ef ew) (λ ν δ.
+        (done-fits t (size .0)) (has .0 .1) (has-room t ef (ew .octets)) (λ ν δ.
         and-then ! (its ! 9 refl) (and-then ! (its ! 25 refl) (and-then ! (its ! 23 refl) (and-then ! (its ! 7 refl) (no-more !)))))
         (λ r zs r-fits same e.
         land ! (from ! (stop !)) (store ! 26 refl (tt, record { fits = r-fits })) $
@@ -196,7 +196,7 @@ module _ {M : Type 1} (𝓤 : URA M) (H : Heap 𝓤) (A : Atoms 𝓤) (W : Given
         ∷ some (EL.val S.the-type S′.the-laws (Tlv kind start len next)) ∷ some (mach (placed s (t .place))) ∷ some _ ∷ some v₀ ∷ some u
         ∷ some (mach (placed s (t .place))) ∷ some (mach (placed s (t .place))) ∷ []))
         (held none next r []) (tt, (refl, (refl, (refl, (refl, (refl, tt)))))) $
-        again ! (Nearer l (λ (m : Met l n out₀). m .place)) At t (onward t ef ew (e .0) (e .1) (has .1 .1 .1 .0 .1))
+        again ! (Nearer l (λ (m : Met l n out₀). m .place)) At t (onward t ef (ew .octets) (e .0) (e .1) (has .1 .1 .1 .0 .1))
         (nearer l (t .place) ef))))
 
     pub looped : (Q : Kit.Post 𝓤 H) → Ends Q → (t : Met l n out₀) → Sq W (At t) (runs (𝓣 .C) (𝓣 .Λ) En (loop turn-1) Q)

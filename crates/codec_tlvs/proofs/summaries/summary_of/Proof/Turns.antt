@@ -162,7 +162,7 @@ module _ {M : Type 1} (𝓤 : URA M) (H : Heap 𝓤) (A : Atoms 𝓤) (W : Given
         (and-then ! (its ! 4 refl) (and-then ! (its ! 16 refl) (and-then ! (its ! 14 refl) (no-more !)))) (λ w u ew isw.
         -- [what the value owns; the token; what the slice owns; the locals]
         land ! (from ! (stop !)) (init ! 7 refl (shr-slice-lawful 𝓤 H A W erased κ u8 .typed w (u ∷ []) isw .0)) $
-        calls-counted mem run fm κ q known-counted ! (t .sum) (t .low) kind w u (t .is) (has .0 .1) (counts t ef ew (has .1 .1 .1 .0 .1))
+        calls-counted mem run fm κ q known-counted ! (t .sum) (t .low) kind w u (t .is) (has .0 .1) (counts t ef (ew .octets) (has .1 .1 .1 .0 .1))
         (and-then ! (its ! 22 refl) (and-then ! (its ! 18 refl) (and-then ! (its ! 6 refl) (no-more !)))) (λ x v ex isx.
         land ! (from ! (stop !)) (store ! 22 refl (LL.lawful Y.the-type Y′.the-laws 𝓤 H A W .typed x _ isx .0)) $
         copies ! 20 2 refl refl (typed s κ 𝓤 H A W ps (t .place) (t .fits)) $
@@ -176,7 +176,7 @@ module _ {M : Type 1} (𝓤 : URA M) (H : Heap 𝓤) (A : Atoms 𝓤) (W : Given
         ∷ some (mach (placed s (t .place))) ∷ some (mach (placed s (t .place))) ∷ [])
         (none ∷ some (sliced s) ∷ some (vint w64 n) ∷ some v ∷ some (mach (placed s next)) ∷ [])
         (tt, (refl, (refl, (refl, (refl, tt))))) $
-        again ! (Nearer l (λ (m : Met l n). m .place)) At t (onward t ef ew ex isx (has .1 .1 .1 .0 .1)) (nearer l (t .place) ef))))
+        again ! (Nearer l (λ (m : Met l n). m .place)) At t (onward t ef (ew .octets) ex isx (has .1 .1 .1 .0 .1)) (nearer l (t .place) ef))))
 
     pub looped : (Q : Kit.Post 𝓤 H) → Ends Q → (t : Met l n) → Sq W (At t) (runs (𝓣 .C) (𝓣 .Λ) En (loop turn-1) Q)
     looped Q back =
