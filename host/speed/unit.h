@@ -15,8 +15,8 @@ struct unit {
     uint64_t (*restart)(uint8_t *image, size_t image_len, uint32_t clock);
 };
 
-/* The unit in C, once for each compiler that the machine has for it; NULL ends the list. */
-extern const struct unit unit_gcc, unit_clang;
+/* The unit in C, twice for each compiler that the machine has for it: zeros tested by the C library, and by OR. NULL ends the list. */
+extern const struct unit unit_gcc, unit_gcc_or, unit_clang, unit_clang_or;
 extern const struct unit *const units_in_c[];
 
 /* The proved one. */

@@ -49,7 +49,30 @@ int is_group(uint64_t address) {
     return address >> 40 & 1;
 }
 
+/* By OR, 64 octets a turn in four sums; or by the C library. Which is quicker is the machine's affair. */
+#ifdef ZEROS_BY_OR
+typedef uint64_t wide __attribute__((vector_size(16), aligned(1), may_alias));
+
+int zero(const uint8_t *p, size_t n) {
+    wide a = {0, 0}, b = a, c = a, d = a;
+    uint8_t rest = 0;
+    for (; n >= 64; n -= 64, p += 64) {
+        const wide *w = (const wide *)p;
+        a |= w[0];
+        b |= w[1];
+        c |= w[2];
+        d |= w[3];
+    }
+    for (; n >= 16; n -= 16, p += 16)
+        a |= *(const wide *)p;
+    for (; n; n--)
+        rest |= *p++;
+    a |= b | c | d;
+    return (a[0] | a[1] | rest) == 0;
+}
+#else
 int zero(const uint8_t *p, size_t n) {
     static const uint8_t zeros[2560];
     return memcmp(p, zeros, n) == 0;
 }
+#endif
