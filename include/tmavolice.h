@@ -3,7 +3,7 @@
  *
  * Octets are lent as a pointer and a length. They are the host's to guarantee:
  * - each pointer leads to as many octets as its length says, each of which has been written once, and it is not null, not even
- *   where the length is 0;
+ *   where the length is 0; no length is 2^63 or more;
  * - what two pointers of one call lead to does not overlap, so the output is never the frame's own buffer;
  * - nothing else reads or writes the image and the output, or writes the frame or the plan, until the call has returned.
  * An octet has no alignment. No other argument is asked for anything: what the unit can't use gets a refusal. */
@@ -48,7 +48,7 @@ enum tmavolice_refusal {
     TMAVOLICE_FRAME_LENGTH = 2,  /* a frame of fewer than 14 or more than 2,000 octets */
     TMAVOLICE_SHORT_OUTPUT = 3,  /* an output of fewer than 2,008 octets */
     TMAVOLICE_NOTICE_DUE = 4,    /* a notice has to be taken first */
-    TMAVOLICE_CLOCK_JUMPED = 5,  /* the clock moved 2,147,483,648 ms or more, or back */
+    TMAVOLICE_CLOCK_JUMPED = 5,  /* the step from the last reading, modulo 2^32, is 2,147,483,648 ms or more */
     TMAVOLICE_NO_SUCH_FLOW = 6,  /* the plan has no such flow */
     TMAVOLICE_NO_NOTICE_DUE = 7, /* there is no notice to take */
     TMAVOLICE_NO_VALID_IMAGE = 8 /* not 4,096 octets, or not the image of a valid state */
@@ -73,7 +73,8 @@ uint64_t tmavolice_make(uint8_t *image, size_t image_len, const uint8_t *plan, s
 uint64_t tmavolice_frame(uint8_t *image, size_t image_len, uint32_t port, uint32_t side, const uint8_t *frame, size_t frame_len,
                          uint8_t *out, size_t out_len);
 
-/* Says what time it is, in milliseconds that wrap; sessions whose time is over close, each with a notice due. */
+/* Says what time it is, in milliseconds that wrap; sessions whose time is over close, each with a notice due. Only the step modulo
+ * 2^32 is seen: after 24 days or more without a tick, or where the clock was set, restart and do not tick. */
 uint64_t tmavolice_tick(uint8_t *image, size_t image_len, uint32_t clock);
 
 /* Lets testers open sessions on a flow. */

@@ -14,9 +14,13 @@ static const char plan[] = "port\t1\tuni\t020000000001\n"
                            "flow\t1\t1\tc\t20\n"
                            "mp\t1\tup\t4\n";
 
+static void report(const char *call, uint64_t answer) {
+    fprintf(stderr, "%s: outcome %d, refusal %d\n", call, tmavolice_outcome_of(answer), tmavolice_refusal_of(answer));
+}
+
 /* An answer that only a mistake of the host can get. */
 static void wrong(const char *call, uint64_t answer) {
-    fprintf(stderr, "%s: outcome %d, refusal %d\n", call, tmavolice_outcome_of(answer), tmavolice_refusal_of(answer));
+    report(call, answer);
     exit(1);
 }
 
@@ -48,7 +52,7 @@ static void take_notices(void) {
         wrong("notice", answer);
 }
 
-/* Where the clock was set back, or nobody ticked for weeks, no session can be timed: all are closed. */
+/* A step that is refused can't be timed: all sessions are closed. */
 static void tick(uint32_t clock) {
     uint64_t answer = tmavolice_tick(image, sizeof image, clock);
     if (tmavolice_refusal_of(answer) == TMAVOLICE_CLOCK_JUMPED)
@@ -79,8 +83,10 @@ static void arrived(uint32_t port, uint32_t side, const uint8_t *frame, size_t l
         transmit(port, side, out, tmavolice_length_of(answer));
         forward(port, side, frame, length);
         break;
-    default:
-        wrong("frame", answer);
+    default: /* Whatever comes from the wire, the host goes on. What the unit does not take, as it is too short or too long, passes. */
+        if (tmavolice_refusal_of(answer) != TMAVOLICE_FRAME_LENGTH)
+            report("frame", answer);
+        forward(port, side, frame, length);
     }
 }
 

@@ -13,7 +13,7 @@ struct arrival {
     size_t length;
 };
 
-enum { ARRIVALS = 6 };
+enum { ARRIVALS = 7 };
 
 extern const struct arrival arrivals[ARRIVALS];
 
