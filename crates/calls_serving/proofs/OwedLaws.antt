@@ -1,16 +1,15 @@
 -- The session that is first owed a notice, in a valid state: it is one of the sessions, and fits a notice.
 use mathlib.Core.Path.{_≡_, sym, ap, _∙_}
-use mathlib.Core.Bool.{Bool, true, false, cond, not, _&&_, true≢false}
+use mathlib.Core.Bool.{Bool, true, false, not, _&&_, true≢false}
 use mathlib.Core.List.{List}
-use Prim.Native.Nat.{ℕ, _/_, _^_, _<_, _≤_}
+use Prim.Native.Nat.{ℕ, _^_, _<_, _≤_}
 use native.Mathlib.Omega.{arith}
 use lib.Dec.{eqb, ltb}
 use lib.ListN.{length, drop, List·getD-eq-default}
-use borrow.Author.Tests.{eq-eqb, eqb-true}
+use borrow.Author.Tests.{eq-eqb}
 use Rattle.octets.proofs.Same.{both-true}
 use Rattle.octets.proofs.Cases.{by-lt}
-use Rattle.codec.specs.declared.FrameSet.{FrameSet}
-use Rattle.codec.specs.FrameSet.{untagged, c-tagged, c-tag, s-tag, group, setOf, vidOf, tagFits}
+use Rattle.codec.specs.FrameSet.{group, setOf, tagFits}
 use Rattle.machine.specs.declared.Session.{Session}
 use Rattle.machine.specs.Machine.{keyOf}
 use Rattle.plan.specs.declared.Flow.{Flow}
@@ -21,7 +20,7 @@ use Rattle.state.specs.State.{State, isAllowed, goodTime, goodSession, valid, f
 use Rattle.state.specs.Image.{sessionIn, stateOf}
 use Rattle.state.specs.Rows.{sessionAt, owedAt}
 use Rattle.state.proofs.Rules.{Valid, valid-parts}
-use Rattle.state.proofs.Fits.{good-flow, good-fits}
+use Rattle.state.proofs.Fits.{good-flow, good-fits, tag-fits}
 use Rattle.state.proofs.ImageLaws.{ok-valid}
 use Rattle.state.proofs.Answers.{owed-found, notice-found}
 use Rattle.state.proofs.OwedRow.{owed-such, owed-keyed}
@@ -44,27 +43,6 @@ level-fits level side f eight h =
     let none : mpAt level f ≡ 0 = List·getD-eq-default (f .mps) 0 (omega arith) in
     absurd (true≢false (sym h ∙ ap (λ (mp : ℕ). faces mp side) none)))
 
-tag-fits : (set : FrameSet) (count tag : ℕ) → tagFits set count tag ≡ true → (count ≤ 4) × (tag < 2 ^ 32)
-unfolding tagFits
-tag-fits set count tag h = go (eqb (set .kind) untagged) (eqb (set .kind) c-tagged) h
-  where
-    kinds : (c : Bool) → cond c c-tag s-tag < 2 ^ 16
-    kinds true = omega arith
-    kinds false = omega arith
-
-    go : (u c : Bool)
-        → cond u (eqb count 0 && eqb tag 0)
-        (eqb count 4 && eqb (tag / 2 ^ 16) (cond c c-tag s-tag) && eqb (vidOf tag) (set .vid)) ≡ true
-        → (count ≤ 4) × (tag < 2 ^ 32)
-    go true c e =
-        let t : _ = both-true (eqb count 0) (eqb tag 0) e in
-        (omega (arith, eqb-true count 0 (t .0)), omega (arith, eqb-true tag 0 (t .1)))
-    go false c e =
-        let x : ℕ = cond c c-tag s-tag in
-        let t : _ = both-true (eqb count 4 && eqb (tag / 2 ^ 16) x) (eqb (vidOf tag) (set .vid)) e in
-        let r : _ = both-true (eqb count 4) (eqb (tag / 2 ^ 16) x) (t .0) in
-        (omega (arith, eqb-true count 4 (r .0)), omega (arith, eqb-true (tag / 2 ^ 16) x (r .1), kinds c))
-
 session-fits : (s : State) (x : Session) → valid s ≡ true → goodSession s x ≡ true → NoticeFits x
 unfolding goodSession
 session-fits s x v h =
@@ -85,7 +63,7 @@ session-fits s x v h =
     record {
       level-fits = level-fits (x .level) (x .side) f (good-flow (s .plan) f good .fits .mps-fit) (t4 .1);
       count-fits = tag .0;
-      tag-fits = tag .1;
+      tag-fits = tag .1 .0;
       source-fits = good-fits s x (p .plan-kept) h .source-fits;
     }
 

@@ -2,13 +2,9 @@
 use mathlib.Core.Path.{_≡_, refl}
 use mathlib.Core.Bool.{true}
 use mathlib.Core.List.{List, [], _∷_}
-use Prim.Native.Nat.{ℕ, zero, suc, _*_, _^_, _<_, _≤_}
+use Prim.Native.Nat.{ℕ, _*_, _^_, _≤_}
 use native.Mathlib.Omega.{arith}
-use lib.Dec.{ltb}
-use lib.ListN.{getD}
-use borrow.Author.Tests.{ltb-true}
 use Rattle.octets.specs.Lists.{every}
-use Rattle.octets.proofs.Same.{both-true}
 use Rattle.codec.specs.declared.FrameSet.{FrameSet}
 use Rattle.codec.specs.FrameSet.{cen, c-tagged, setOf}
 use Rattle.plan.proofs.Examples.{benchPlan}
@@ -19,6 +15,7 @@ use Rattle.demands.specs.World.{World}
 use Rattle.demands.specs.Runs.{Seen, EntriesRun}
 use Rattle.demands.specs.Shown.{worldOf}
 use Rattle.demands.specs.LaterRuns.{Asks, Became, rewritten, Rewritten, ended as run-ended, later, AllMatch}
+use Rattle.demands.proofs.TypedCalls.{each-small}
 use Rattle.demands.proofs.DemandThree.{demand-three}
 use Rattle.demands.proofs.BenchLater.{b1, b2, timer, unknown9, computed, b2-later}
 
@@ -41,12 +38,6 @@ module _ (w : World) (p : w .plan ≡ benchPlan) where
   b2-run keys = later b1-asks b2-later refl run-ended
 
 -- ---- and the C entries answer them alike, on every image of a unit with that plan, whoever has sessions
-
-each-small : (l : List ℕ) → every (λ x. ltb x 256) l ≡ true → (i : ℕ) → getD l i 0 < 256
-unfolding every
-each-small [] h i = omega arith
-each-small (x ∷ l) h zero = ltb-true x 256 (both-true (ltb x 256) (every (λ y. ltb y 256) l) h .0)
-each-small (x ∷ l) h (suc i) = each-small l (both-true (ltb x 256) (every (λ y. ltb y 256) l) h .1) i
 
 pub bench-three : (keys : ℕ) → 33 * 2 ^ 48 ≤ keys → {l : List ℕ} {xs ys : List Seen} {ls ks : List (List ℕ)} → okImage l ≡ true
     → stateOf l .plan ≡ benchPlan

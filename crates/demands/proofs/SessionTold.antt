@@ -2,25 +2,23 @@
 use mathlib.Core.Path.{_≡_, refl, sym}
 use mathlib.Core.Bool.{Bool, true, false, not, _&&_, _||_}
 use mathlib.Core.List.{List, [], _∷_, append-nil}
-use Prim.Native.Nat.{ℕ, _/_, _%_, _^_, _<_}
-use native.Mathlib.Omega.{arith}
+use Prim.Native.Nat.{ℕ, _/_, _%_, _^_}
 use lib.Dec.{eqb, ltb}
 use lib.ListN.{length}
 use borrow.Author.Tests.{eqb-true}
-use Rattle.octets.specs.Octets.{number, octets}
+use Rattle.octets.specs.Octets.{number}
 use Rattle.octets.specs.Lists.{every, first}
 use Rattle.octets.proofs.Same.{both-true}
 use Rattle.octets.proofs.Cases.{by-eq}
 use Rattle.octets.proofs.Laws.{octets-length}
 use Rattle.octets.proofs.Round.{number-octets}
-use Rattle.codec.specs.declared.FrameSet.{FrameSet}
-use Rattle.codec.specs.FrameSet.{untagged, c-tagged, c-tag, s-tag, group, vidOf, setOf, tagFits}
+use Rattle.codec.specs.FrameSet.{group, setOf, tagFits}
 use Rattle.machine.specs.declared.Session.{Session}
 use Rattle.machine.specs.Machine.{isOpen, keyOf}
 use Rattle.plan.specs.declared.Flow.{Flow}
 use Rattle.plan.specs.Plan.{flowNumbered, inPlan, mpAt, faces}
 use Rattle.state.specs.State.{State, isAllowed, goodTime, goodSession, valid, noSession}
-use Rattle.state.proofs.OwedRow.{by-test}
+use Rattle.state.proofs.Fits.{tag-fits}
 use Rattle.calls.proofs.Standing.{good-parts}
 use Rattle.demands.specs.Machine.{Machine, Owed, nothing, notice, prohibited, inactive, active}
 use Rattle.demands.specs.Shown.{resting, tagIn, machineBy, machineIn}
@@ -57,23 +55,6 @@ unfolding sessionBy resting
 rests k true owed = refl
 rests k false owed = refl
 
--- the octets of a tag of the set hold it
-tag-small : (set : FrameSet) (count tag : ℕ) → tagFits set count tag ≡ true → tag < 256 ^ count
-unfolding tagFits
-tag-small set count tag h =
-    by-test (eqb (set .kind) untagged)
-    (λ u.
-    let t : _ = both-true (eqb count 0) (eqb tag 0) (rw u at h) in
-    rw (eqb-true count 0 (t .0), eqb-true tag 0 (t .1)) (omega arith))
-    (λ u. by-test (eqb (set .kind) c-tagged) (λ c. four c-tag (omega arith) (rw (u, c) at h)) (λ c. four s-tag (omega arith) (rw (u, c) at h)))
-  where
-    four : (type : ℕ) → type < 2 ^ 16 → (eqb count 4 && eqb (tag / 2 ^ 16) type && eqb (vidOf tag) (set .vid)) ≡ true
-        → tag < 256 ^ count
-    four type small e =
-        let t : _ = both-true (eqb count 4 && eqb (tag / 2 ^ 16) type) (eqb (vidOf tag) (set .vid)) e in
-        let r : _ = both-true (eqb count 4) (eqb (tag / 2 ^ 16) type) (t .0) in
-        rw (eqb-true count 4 (r .0)) (omega (arith, eqb-true (tag / 2 ^ 16) type (r .1)))
-
 module _ (s : State) (ok : valid s ≡ true) (x : Session) (good : goodSession s x ≡ true) where
   tag-told : number (length (tagIn x)) (tagIn x) ≡ x .tag
   unfolding tagIn
@@ -84,7 +65,7 @@ module _ (s : State) (ok : valid s ≡ true) (x : Session) (good : goodSession s
       let t : _ = both-true (ahead && d) (faces (mpAt (x .level) f) (x .side)) (good-parts s x good .0) in
       let fits : d ≡ true = both-true ahead d (t .0) .1 in
       rw octets-length
-      (rw append-nil at (number-octets (x .taglen) (x .tag) [] (tag-small (setOf (f .kind) (f .vid)) (x .taglen) (x .tag) fits)))
+      (rw append-nil at (number-octets (x .taglen) (x .tag) [] (tag-fits (setOf (f .kind) (f .vid)) (x .taglen) (x .tag) fits .1 .1)))
 
   told-again : (left code : ℕ) → left ≡ x .left → code ≡ x .notice → told (keyOf x) (x .level) (x .side) left code (tagIn x) ≡ x
   unfolding told keyOf

@@ -21,7 +21,7 @@ isTyped (prohibit flow) = true
 isTyped (notice out) = true
 isTyped (restart clock) = ltb clock (2 ^ 32)
 
-each-small : (l : List ℕ) → every (λ x. ltb x 256) l ≡ true → (i : ℕ) → getD l i 0 < 256
+pub each-small : (l : List ℕ) → every (λ x. ltb x 256) l ≡ true → (i : ℕ) → getD l i 0 < 256
 unfolding every
 each-small [] h i = omega arith
 each-small (x ∷ l) h zero = ltb-true x 256 (both-true (ltb x 256) (every (λ y. ltb y 256) l) h .0)

@@ -65,7 +65,9 @@ good-flow plan f h =
 
 -- ---- a session
 
-tag-fits : (set : FrameSet) (count tag : ℕ) → tagFits set count tag ≡ true → tag < 2 ^ 32
+-- the tag of a set is a number of so many octets, four or none
+pub tag-fits : (set : FrameSet) (count tag : ℕ) → tagFits set count tag ≡ true
+    → (count ≤ 4) × ((tag < 2 ^ 32) × (tag < 256 ^ count))
 unfolding tagFits
 tag-fits set count tag h = go (eqb (set .kind) untagged) (eqb (set .kind) c-tagged) h
   where
@@ -76,13 +78,16 @@ tag-fits set count tag h = go (eqb (set .kind) untagged) (eqb (set .kind) c-tagg
     go : (u c : Bool)
         → cond u (eqb count 0 && eqb tag 0)
         (eqb count 4 && eqb (tag / 2 ^ 16) (cond c c-tag s-tag) && eqb (vidOf tag) (set .vid)) ≡ true
-        → tag < 2 ^ 32
-    go true c e = omega (arith, eqb-true tag 0 (both-true (eqb count 0) (eqb tag 0) e .1))
+        → (count ≤ 4) × ((tag < 2 ^ 32) × (tag < 256 ^ count))
+    go true c e =
+        let t : _ = both-true (eqb count 0) (eqb tag 0) e in
+        rw (eqb-true count 0 (t .0), eqb-true tag 0 (t .1)) (omega arith, (omega arith, omega arith))
     go false c e =
         let x : ℕ = cond c c-tag s-tag in
         let t : _ = both-true (eqb count 4 && eqb (tag / 2 ^ 16) x) (eqb (vidOf tag) (set .vid)) e in
-        let q : tag / 2 ^ 16 ≡ x = eqb-true (tag / 2 ^ 16) x (both-true (eqb count 4) (eqb (tag / 2 ^ 16) x) (t .0) .1) in
-        omega (arith, q, kinds c)
+        let r : _ = both-true (eqb count 4) (eqb (tag / 2 ^ 16) x) (t .0) in
+        let q : tag / 2 ^ 16 ≡ x = eqb-true (tag / 2 ^ 16) x (r .1) in
+        rw (eqb-true count 4 (r .0)) (omega arith, (omega (arith, q, kinds c), omega (arith, q, kinds c)))
 
 left-fits : (allowed : Bool) (x : Session) → goodTime allowed x ≡ true → x .left ≤ 86400000
 unfolding goodTime
@@ -124,7 +129,7 @@ good-session s x k h =
             flow-fits = omega (arith, within-high 1 32 (x .flow) v);
             source-fits = ltb-true (x .source) (2 ^ 48) (t1 .1);
             left-fits = omega (arith, left-fits (isAllowed (x .flow) s) x (t5 .1));
-            tag-fits = omega (arith, tag-fits (setOf (f .kind) (f .vid)) (x .taglen) (x .tag) (t3 .1));
+            tag-fits = omega (arith, tag-fits (setOf (f .kind) (f .vid)) (x .taglen) (x .tag) (t3 .1) .1 .0);
           };
       key-some = omega (arith, within-low 1 32 (x .flow) v);
     }
