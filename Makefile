@@ -1,4 +1,4 @@
-.PHONY: run library test wrong bench soak
+.PHONY: run library shift test wrong bench soak
 
 # The paper's bench cases B1 to B12, played on the C entries of the proved library.
 run:
@@ -7,6 +7,10 @@ run:
 # The proved library for C, target/staticlib/libtmavolice.a, for x86-64; where the machine is another, target/native has one for it.
 library:
 	@$(MAKE) -s -C host library
+
+# The program that runs a recorded shift, target/bin/shift, for x86-64; host/start.sh runs it on another machine.
+shift:
+	@$(MAKE) -s -C host shift
 
 # The layout of every file; every proof and program, from nothing; every wrong program; then the host's tests.
 test:

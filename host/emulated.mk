@@ -20,11 +20,16 @@ ARCHIVES += $(NATIVE)/libtmavolice.a $(NATIVE)/libstate_probe.a
 
 # A time on an emulator says nothing. So what is timed is the product compiled for this machine, against C by its own compilers.
 TIMES = native_times
-.PHONY: native_times
+SHIFT_CHECK = native_shift_check
+ON_ITSELF = LIBRARY_FOR=$(MACHINE) OUT=$(NATIVE) LIB=$(NATIVE)/libtmavolice.a OWN_SHIFT=$(NATIVE)/shift
+.PHONY: native_times native_shift_check
 
 native_times:
 	@echo "The library compiled for $(MACHINE) by the kit's clang, to be timed:"
-	@$(MAKE) LIBRARY_FOR=$(MACHINE) OUT=$(NATIVE) LIB=$(NATIVE)/libtmavolice.a times
+	@$(MAKE) $(ON_ITSELF) times
+
+native_shift_check:
+	@$(MAKE) $(ON_ITSELF) shift_check
 
 # Else stack that a caller by clang gives back before it jumps to a call would be taken off that call's.
 $(OUT)/stack: CFLAGS += -fno-optimize-sibling-calls

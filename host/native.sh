@@ -1,9 +1,9 @@
 #!/bin/sh
-# A crate proved and written as a library for a machine that is not x86-64. The kit compiles for x86-64 only, and hands the module that
+# A crate proved and written as a library, or a program as an object, for a machine that is not x86-64. The kit compiles for x86-64 only, and hands the module that
 # it made of the proved code to the clang of its toolchain. Here it is handed a toolchain whose clang compiles that module for this
 # machine, with the same options but for the target. The crates that it uses have been proved before.
-# Usage: native.sh CRATE LIBRARY.a, from the folder host
-crate=$1 library=$2
+# Usage: native.sh CRATE LIBRARY.a, or native.sh PROGRAM OBJECT.o, from the folder host
+crate=$1 written=$2
 machine=$(uname -m)
 kit=$(dirname "$(dirname "$(rt doc)")")
 own=$kit/on/$machine
@@ -40,12 +40,20 @@ exec $tools/bin/clang "\$@"
 END
 chmod +x "$work"/bin/*
 
-set -- --crate-name "$crate" "$root/crates/$crate/src/lib.rt" --extern "std=$own/rlib/std.rlib"
+case $written in
+*.a) file=lib.rt kind='--crate-type staticlib' ;;
+*) file=main.rt kind= ;;
+esac
+set -- --crate-name "$crate" "$root/crates/$crate/src/$file" --extern "std=$own/rlib/std.rlib"
 used=$(sed -n "s/^$crate: *//p" "$root/crates.txt")
 for each in $used; do
-    set -- "$@" --extern "$each=$root/target/rlib/$each.rlib"
+    # a crate of ours, or one of the kit's
+    folder=$root/target/rlib
+    [ -e "$folder/$each.rlib" ] || folder=$own/rlib
+    set -- "$@" --extern "$each=$folder/$each.rlib"
 done
 set -- "$@" -L "dependency=$root/target/rlib" -L "dependency=$own/rlib"
 set -- "$@" --antt-project "$kit/logic/antt-project.json" --logic-built "$own/logic-built"
-mkdir -p "$(dirname "$library")"
-"$own/bin/rattle" build --crate-type staticlib --toolchain "$work" -o "$library" "$@" >"$work/said" 2>&1 || { cat "$work/said"; exit 1; }
+mkdir -p "$(dirname "$written")"
+# shellcheck disable=SC2086
+"$own/bin/rattle" build $kind --toolchain "$work" -o "$written" "$@" >"$work/said" 2>&1 || { cat "$work/said"; exit 1; }

@@ -36,6 +36,13 @@ writes() { # PROGRAM FILE
     diff "$2" "$out" && [ "$ended" -eq 0 ]
 }
 
+# Does a program answer a log, from the folder of its plan, as its file says?
+answers() { # PROGRAM LOG FILE
+    (cd "$(dirname "$2")" && "$OLDPWD/host/start.sh" "$OLDPWD/$1" <"$OLDPWD/$2") >"$out"
+    ended=$?
+    diff "$3" "$out" && [ "$ended" -eq 0 ]
+}
+
 tests() {
     (cd host && cargo test --release --offline "$@" 2>&1)
 }
@@ -60,7 +67,10 @@ check host/start.sh target/host/header_c
 check host/start.sh target/host/header_cpp
 check writes target/host/run host/run/stdout
 check writes target/host/example host/example/stdout
+check answers target/bin/shift host/shift/log host/shift/answers
 check host/quoted.sh README.md text host/run/stdout
+check host/quoted.sh README.md log host/shift/log
+check host/quoted.sh README.md answers host/shift/answers
 check host/quoted.sh docs/HOST.md c host/example/host.c
 
 part "The host's tests"

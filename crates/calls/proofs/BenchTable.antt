@@ -44,7 +44,7 @@ use Rattle.calls.proofs.Mps.{mpPlan, mps, otherLevel, atMip, atEnni, to
 use Rattle.calls.proofs.Mps.{imageOf, entries}
 
 -- every definition, to be unfolded at once
-everything : Unit {0}
+unfoldable pub everything : Unit {0}
 unfolding within every some count first ascends put without distinct number octets lowNumber lowOctets movedUp movedDown allZero same text hex
     destination source group typeBehind vidOf setOf tagged byTag tagFits setsOf soam pduOf activeFlags flagsBy flags
     header timerTlv carriesTimer timerPart replyPdu copied replyOf replyFrame tagOf looped octet levelOf versionOf opcodeOf

@@ -28,7 +28,7 @@ parted-past by (x ∷ l) rest h =
     let b : _ = both-true (not (eqb x by)) (free by l) h in
     rw (not-true (eqb x by) (b .0), parted-past by l rest (b .1))
 
-parted-only : (by : ℕ) (l : List ℕ) → free by l ≡ true → parted by l ≡ l ∷ []
+pub parted-only : (by : ℕ) (l : List ℕ) → free by l ≡ true → parted by l ≡ l ∷ []
 unfolding parted joined every
 parted-only by [] h = refl
 parted-only by (x ∷ l) h =
@@ -36,16 +36,16 @@ parted-only by (x ∷ l) h =
     rw (not-true (eqb x by) (b .0), parted-only by l (b .1))
 
 -- a field: its octets are above tab and LF
-abbrev plain : List ℕ → Bool
+abbrev pub plain : List ℕ → Bool
 plain l = every (ltb lf) l
 
-plain-free : (by : ℕ) → by ≤ lf → (l : List ℕ) → plain l ≡ true → free by l ≡ true
+pub plain-free : (by : ℕ) → by ≤ lf → (l : List ℕ) → plain l ≡ true → free by l ≡ true
 plain-free by h l p = every-such (ltb lf) (λ x. not (eqb x by)) other l p
   where
     other : (x : ℕ) → ltb lf x ≡ true → not (eqb x by) ≡ true
     other x e = let p : lf < x = ltb-true lf x e in rw (ne-eqb x by (λ z. omega arith))
 
-parted-tabbed : (fs : List (List ℕ)) → 1 ≤ length fs → every plain fs ≡ true → parted tab (tabbed fs) ≡ fs
+pub parted-tabbed : (fs : List (List ℕ)) → 1 ≤ length fs → every plain fs ≡ true → parted tab (tabbed fs) ≡ fs
 unfolding every tabbed
 parted-tabbed [] n h = absurd (omega arith)
 parted-tabbed (f ∷ []) n h = parted-only tab f (plain-free tab (omega arith) f (both-true (plain f) true h .0))
@@ -53,7 +53,7 @@ parted-tabbed (f ∷ g ∷ fs) n h =
     let b : _ = both-true (plain f) (every plain (g ∷ fs)) h in
     parted-past tab f (tabbed (g ∷ fs)) (plain-free tab (omega arith) f (b .0)) ∙ rw (parted-tabbed (g ∷ fs) (omega arith) (b .1))
 
-tabbed-free : (fs : List (List ℕ)) → every plain fs ≡ true → free lf (tabbed fs) ≡ true
+pub tabbed-free : (fs : List (List ℕ)) → every plain fs ≡ true → free lf (tabbed fs) ≡ true
 unfolding every tabbed
 tabbed-free [] h = refl
 tabbed-free (f ∷ []) h = plain-free lf (omega arith) f (both-true (plain f) true h .0)
@@ -70,7 +70,7 @@ word-passes test e [] h n = e
 word-passes test e (w ∷ words) h zero = both-true (test w) (every test words) h .0
 word-passes test e (w ∷ words) h (suc n) = word-passes test e words (both-true (test w) (every test words) h .1) n
 
-decimal-plain : (n x : ℕ) → plain (decimal n x) ≡ true
+pub decimal-plain : (n x : ℕ) → plain (decimal n x) ≡ true
 unfolding decimal every
 decimal-plain zero x = refl
 decimal-plain (suc n) x =
@@ -80,7 +80,7 @@ decimal-plain (suc n) x =
     (every-join (ltb lf) (decimal n (x / 10)) ((48 + x % 10) ∷ []) (decimal-plain n (x / 10))
     (rw (lt-ltb lf (48 + x % 10) (omega arith)))))
 
-digit-plain : (d : ℕ) → ltb lf (hexDigit d) ≡ true
+pub digit-plain : (d : ℕ) → ltb lf (hexDigit d) ≡ true
 unfolding hexDigit
 digit-plain d = by-lt d 10 (λ e s. rw (e, lt-ltb lf (48 + d) (omega arith))) (λ e s. rw (e, lt-ltb lf (87 + d) (omega arith)))
 

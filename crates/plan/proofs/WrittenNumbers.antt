@@ -85,13 +85,13 @@ pub decimal-is : (n x : ℕ) → x < 10 ^ suc n → isNumber (decimal (suc n) x)
 unfolding decimal
 decimal-is n x h = by-lt x 10 (λ e s. rw e (one-digit x s)) (λ e s. some-leads n x (omega arith) h .0)
 
-high-digit : (d : ℕ) → d < 16 → digit (hexDigit d) ≡ d
+pub high-digit : (d : ℕ) → d < 16 → digit (hexDigit d) ≡ d
 unfolding digit hexDigit
 high-digit d h =
     by-lt d 10 (λ e s. rw (e, lt-ltb (48 + d) 58 (omega arith)) (omega arith))
     (λ e s. rw (e, le-ltb (87 + d) 58 (omega arith), le-ltb (87 + d) 97 (omega arith)) (omega arith))
 
-high-is : (d : ℕ) → d < 16 → (isDigit (hexDigit d) || within 97 102 (hexDigit d)) ≡ true
+pub high-is : (d : ℕ) → d < 16 → (isDigit (hexDigit d) || within 97 102 (hexDigit d)) ≡ true
 unfolding hexDigit
 high-is d h =
     by-lt d 10 (λ e s. rw (e, low-is d s))

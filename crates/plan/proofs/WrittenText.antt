@@ -59,7 +59,7 @@ lines-read n plan last (line ∷ next ∷ lines) (f, e, p) =
     ∙ lines-read (n + 1) (added line plan) last (next ∷ lines) p
 
 -- how long a text is
-decimal-short : (n x : ℕ) → length (decimal n x) ≤ n
+pub decimal-short : (n x : ℕ) → length (decimal n x) ≤ n
 unfolding decimal
 decimal-short zero x = omega arith
 decimal-short (suc n) x =

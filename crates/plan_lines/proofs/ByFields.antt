@@ -37,12 +37,12 @@ readAddress f = cond (isAddress f) (Address (addressIn f)) NoAddress
 
 -- a field that is read if it passes a test
 module _ {D : Type 0} (some : ℕ → D) (none : D) where
-  is-some : (b : Bool) (x : ℕ) {d : D} {n : ℕ} → (some x ≡ some n → n ≡ x) → (none ≡ some n → ⊥)
+  pub is-some : (b : Bool) (x : ℕ) {d : D} {n : ℕ} → (some x ≡ some n → n ≡ x) → (none ≡ some n → ⊥)
       → d ≡ cond b (some x) none → d ≡ some n → (b ≡ true) × (n ≡ x)
   is-some true x inside apart e h = (refl, inside (sym e ∙ h))
   is-some false x inside apart e h = absurd (apart (sym e ∙ h))
 
-  is-none : (b : Bool) (x : ℕ) {d : D} → (some x ≡ none → ⊥) → d ≡ cond b (some x) none → d ≡ none → b ≡ false
+  pub is-none : (b : Bool) (x : ℕ) {d : D} → (some x ≡ none → ⊥) → d ≡ cond b (some x) none → d ≡ none → b ≡ false
   is-none true x apart e h = absurd (apart (sym e ∙ h))
   is-none false x apart e h = refl
 

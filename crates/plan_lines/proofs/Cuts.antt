@@ -39,17 +39,24 @@ module _ (l : List ℕ) {one : ℕ} (e : Ends l 0 one) where
     pub cuts-two : two ≡ length l → CutAs l Other
     cuts-two t = rw (first, last-field tab (one + 1) two l (f .0) (f .1 .0) t) (λ z. omega arith)
 
-    module _ (m : two ≡ length l → ⊥) {three : ℕ} (g : Ends l (two + 1) three) where
+    module _ (m : two ≡ length l → ⊥) where
       second : parted tab l ≡ take one l ∷ take (two - (one + 1)) (drop (one + 1) l) ∷ parted tab (drop (two + 1) l)
       second = rw (first, next-field tab (one + 1) two l (f .0) (f .1 .0) (omega arith))
 
-      pub cuts-three : three ≡ length l → CutAs l (Three one two)
-      cuts-three t = (omega arith, omega arith, rw (second, last-field tab (two + 1) three l (g .0) (g .1 .0) t))
+      pub cut-second : parted tab l
+          ≡ take (one - 0) (drop 0 l)
+          ∷ take (two - (one + 1)) (drop (one + 1) l)
+          ∷ parted tab (take (length l - (two + 1)) (drop (two + 1) l))
+      cut-second = second ∙ rw (sub-zero, behind (two + 1) l)
 
-      pub cuts-more : (three ≡ length l → ⊥) → CutAs l Other
-      cuts-more k =
-          rw (second, next-field tab (two + 1) three l (g .0) (g .1 .0) (omega arith))
-          (λ z. omega (arith, some-part tab (drop (three + 1) l)))
+      module _ {three : ℕ} (g : Ends l (two + 1) three) where
+        pub cuts-three : three ≡ length l → CutAs l (Three one two)
+        cuts-three t = (omega arith, omega arith, rw (second, last-field tab (two + 1) three l (g .0) (g .1 .0) t))
+
+        pub cuts-more : (three ≡ length l → ⊥) → CutAs l Other
+        cuts-more k =
+            rw (second, next-field tab (two + 1) three l (g .0) (g .1 .0) (omega arith))
+            (λ z. omega (arith, some-part tab (drop (three + 1) l)))
 
 -- three fields as parts of the list, or another count of fields
 module _ (l : List ℕ) {r : Cuts} (k : CutAs l r) where

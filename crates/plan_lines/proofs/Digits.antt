@@ -2,7 +2,7 @@
 use mathlib.Core.Path.{_≡_, sym, _∙_}
 use mathlib.Core.Bool.{true, false}
 use mathlib.Core.List.{List, [], _∷_}
-use Prim.Native.Nat.{ℕ, _+_, _-_, _*_, _^_, _<_, _≤_}
+use Prim.Native.Nat.{ℕ, _+_, _-_, _*_, _^_, _<_, _≤_, min}
 use native.Mathlib.Nat.{pow-suc, pow-le-pow-right}
 use native.Mathlib.Numerals.{add-one}
 use native.Mathlib.Omega.{arith}
@@ -14,9 +14,8 @@ use Rattle.octets.specs.Lists.{within, every}
 use Rattle.octets.specs.Text.{digit}
 use Rattle.octets.proofs.Cases.{by-le}
 use Rattle.plan.specs.Line.{isDigit, spelled}
-use Rattle.plan_lines.specs.CappedLine.{capped}
 use Rattle.plan_lines.specs.Fields.{isHex, valueOf, digitsOn, hexOn}
-use Rattle.plan_lines.specs.declared.fields.Digits.the-variants.{NoNumber, Number}
+use Rattle.plan_lines.specs.declared.fields.Amount.the-variants.{NoAmount, Of}
 use Rattle.plan_lines.specs.declared.fields.Hex.the-variants.{NoAddress, Address}
 
 -- The tests of an octet, by what it counts.
@@ -61,26 +60,26 @@ counts x =
     (λ a ha. none x (simp a) (simp (lt-leb 97 x (omega arith))))
 
 -- a number of any count of digits, capped at each of them
-capped-on : (l : List ℕ) (so : ℕ) → capped (spelled 10 (capped so) l) ≡ capped (spelled 10 so l)
-unfolding spelled capped
-capped-on [] so = omega arith
-capped-on (x ∷ l) so =
-    let e : capped (capped so * 10 + digit x) ≡ capped (so * 10 + digit x) = omega arith in
-    sym (capped-on l (capped so * 10 + digit x)) ∙ rw e (capped-on l (so * 10 + digit x))
+capped-on : (most : ℕ) (l : List ℕ) (so : ℕ) → min (spelled 10 (min so most) l) most ≡ min (spelled 10 so l) most
+unfolding spelled
+capped-on most [] so = omega arith
+capped-on most (x ∷ l) so =
+    let e : min (min so most * 10 + digit x) most ≡ min (so * 10 + digit x) most = omega arith in
+    sym (capped-on most l (min so most * 10 + digit x)) ∙ rw e (capped-on most l (so * 10 + digit x))
 
 -- the octet at i, which counts d, behind the digits that made `so`
 module _ (l : List ℕ) (i so d : ℕ) (h : i < length l) (e : d ≡ valueOf (getD l i 0)) where
-  pub digits-turn : d < 10 → digitsOn (capped (so * 10 + d)) (drop (i + 1) l) ≡ digitsOn so (drop i l)
+  pub digits-turn : (most : ℕ) → d < 10 → digitsOn most (min (so * 10 + d) most) (drop (i + 1) l) ≡ digitsOn most so (drop i l)
   unfolding digitsOn every spelled
-  digits-turn k =
+  digits-turn most k =
       let c : Counts (getD l i 0) = counts (getD l i 0) in
       let t : isDigit (getD l i 0) ≡ true = c .decimal ∙ lt-ltb (valueOf (getD l i 0)) 10 (omega arith) in
       let v : d ≡ digit (getD l i 0) = e ∙ c .value (omega arith) in
       rw v (simp (add-one, drop-cons l i 0 h, t, capped-on))
 
-  pub digits-other : 10 ≤ d → NoNumber ≡ digitsOn so (drop i l)
+  pub digits-other : (most : ℕ) → 10 ≤ d → NoAmount ≡ digitsOn most so (drop i l)
   unfolding digitsOn every
-  digits-other k =
+  digits-other most k =
       let t : isDigit (getD l i 0) ≡ false = counts (getD l i 0) .decimal ∙ le-ltb (valueOf (getD l i 0)) 10 (omega arith) in
       simp (drop-cons l i 0 h, t)
 
@@ -98,9 +97,9 @@ module _ (l : List ℕ) (i so d : ℕ) (h : i < length l) (e : d ≡ valueOf (ge
       let t : isHex (getD l i 0) ≡ false = counts (getD l i 0) .hexadecimal ∙ le-ltb (valueOf (getD l i 0)) 16 (omega arith) in
       simp (drop-cons l i 0 h, t)
 
-pub digits-end : (l : List ℕ) (i so : ℕ) → length l ≤ i → so ≤ 9999 → Number so ≡ digitsOn so (drop i l)
-unfolding digitsOn every spelled capped
-digits-end l i so h k = let e : capped so ≡ so = omega arith in simp (drop-of-length-le l h, e)
+pub digits-end : (most : ℕ) (l : List ℕ) (i so : ℕ) → length l ≤ i → so ≤ most → Of so ≡ digitsOn most so (drop i l)
+unfolding digitsOn every spelled
+digits-end most l i so h k = let e : min so most ≡ so = omega arith in simp (drop-of-length-le l h, e)
 
 pub hex-end : (l : List ℕ) (i so : ℕ) → length l ≤ i → Address so ≡ hexOn so (drop i l)
 unfolding hexOn every spelled

@@ -1,6 +1,6 @@
 mod Digits
 mod Numbers
 pub mod Parts
-mod Cuts
-mod ByFields
+pub mod Cuts
+pub mod ByFields
 mod Words

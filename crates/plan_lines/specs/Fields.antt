@@ -2,14 +2,13 @@
 use mathlib.Core.Path.{_≡_}
 use mathlib.Core.List.{List, [], _∷_}
 use mathlib.Core.Bool.{Bool, cond, _||_}
-use Prim.Native.Nat.{ℕ, _+_, _-_, _<_}
+use Prim.Native.Nat.{ℕ, _+_, _-_, _<_, min}
 use lib.ListN.{length, take, drop}
 use Rattle.octets.specs.Lists.{within, every}
 use Rattle.octets.specs.Text.{digit}
 use Rattle.plan.specs.Line.{Line, tab, parted, isDigit, spelled, asPort, asFlow, asMp}
-use Rattle.plan_lines.specs.CappedLine.{capped}
-use Rattle.plan_lines.specs.declared.fields.Digits.{Digits}
-use Rattle.plan_lines.specs.declared.fields.Digits.the-variants.{NoNumber, Number}
+use Rattle.plan_lines.specs.declared.fields.Amount.{Amount}
+use Rattle.plan_lines.specs.declared.fields.Amount.the-variants.{NoAmount, Of}
 use Rattle.plan_lines.specs.declared.fields.Hex.{Hex}
 use Rattle.plan_lines.specs.declared.fields.Hex.the-variants.{NoAddress, Address}
 use Rattle.plan_lines.specs.declared.lines.Cuts.{Cuts}
@@ -24,10 +23,11 @@ isHex x = isDigit x || within 97 102 x
 unfoldable pub valueOf : ℕ → ℕ
 valueOf x = cond (isHex x) (digit x) 16
 
--- what octets spell behind the digits that made `so`
-unfoldable pub digitsOn : ℕ → List ℕ → Digits
-digitsOn so l = cond (every isDigit l) (Number (capped (spelled 10 so l))) NoNumber
+-- what octets spell behind the digits that made `so`, or the most that is asked for
+unfoldable pub digitsOn : ℕ → ℕ → List ℕ → Amount
+digitsOn most so l = cond (every isDigit l) (Of (min (spelled 10 so l) most)) NoAmount
 
+-- what octets spell behind the digits that made `so`
 unfoldable pub hexOn : ℕ → List ℕ → Hex
 hexOn so l = cond (every isHex l) (Address (spelled 16 so l)) NoAddress
 

@@ -5,11 +5,12 @@ use octets::same_octets;
 ghost use mathlib.Core.Path.{_≡_};
 ghost use mathlib.Core.Bool.{cond};
 ghost use mathlib.Core.List.{[], _∷_};
-ghost use Prim.Native.Nat.{_≤_};
+ghost use Prim.Native.Nat.{_≤_, _^_, min};
 ghost use lib.ListN.{length, drop};
 ghost use Rattle.plan.specs.Line.{isNumber, isAddress, numberIn, addressIn, listed, portKinds, flowKinds, mpKinds};
 ghost use Rattle.plan_lines.specs.CappedLine.{endOf, capped};
 ghost use Rattle.plan_lines.specs.Fields.{valueOf, digitsOn, hexOn};
+ghost use Rattle.plan_lines.specs.declared.fields.Amount.the-variants.{NoAmount, Of};
 ghost use Rattle.plan_lines.specs.declared.fields.Digits.the-variants.{NoNumber, Number};
 ghost use Rattle.plan_lines.specs.declared.fields.Hex.the-variants.{NoAddress, Address};
 
@@ -19,9 +20,15 @@ const NO_DIGIT: u32 = 16;
 // What is taken from a letter: `a` counts 10.
 const BELOW_LETTERS: u8 = 87;
 
-const HIGHEST_HELD: u32 = 9999;
+const HIGHEST_HELD: u64 = 9999;
 
 const ADDRESS_DIGITS: usize = 12;
+
+// A number, or the most that is asked for where it is above.
+pub enum Amount {
+    NoAmount,
+    Of(u64),
+}
 
 pub enum Digits {
     NoNumber,
@@ -67,47 +74,58 @@ fn value_of(x: u8) -> u32
     NO_DIGIT
 }
 
-// A number as it is held: at most 9,999.
-fn cap(x: u32) -> u32
-    ensures { λ r. ⌜ r ≡ capped x ⌝ }
+fn cap(x: u64, most: u64) -> u64
+    ensures { λ r. ⌜ r ≡ min x most ⌝ }
 {
-    if HIGHEST_HELD < x {
-        return HIGHEST_HELD;
+    if most < x {
+        return most;
     }
     x
 }
 
 // Decimal digits, of any count.
-fn digits_of(f: &[u8]) -> Digits
-    ensures { λ r. ⌜ r ≡ digitsOn 0 (now (f .entry)) ⌝ }
+fn digits_of(f: &[u8], most: u64) -> Amount
+    requires { ⌜ most ≤ 2 ^ 32 ⌝ }
+    ensures { λ r. ⌜ r ≡ digitsOn most 0 (now (f .entry)) ⌝ }
 {
-    let mut so: u32 = 0;
+    let mut so: u64 = 0;
     let mut i = 0;
     while i < f.len() {
         let d = value_of(f[i]);
         if 10 <= d {
-            return Digits::NoNumber;
+            return Amount::NoAmount;
         }
-        so = cap(so * 10 + d);
+        so = cap(so * 10 + d as u64, most);
         i += 1;
     }
-    Digits::Number(so)
+    Amount::Of(so)
 }
 
 // A decimal number without leading zeros, of any count of digits.
-pub fn number_of(f: &[u8]) -> Digits
-    ensures { λ r. ⌜ r ≡ cond (isNumber (now (f .entry))) (Number (capped (numberIn (now (f .entry))))) NoNumber ⌝ }
+pub fn amount_of(f: &[u8], most: u64) -> Amount
+    requires { ⌜ most ≤ 2 ^ 32 ⌝ }
+    ensures { λ r. ⌜ r ≡ cond (isNumber (now (f .entry))) (Of (min (numberIn (now (f .entry))) most)) NoAmount ⌝ }
 {
     if f.len() == 0 {
-        return Digits::NoNumber;
+        return Amount::NoAmount;
     }
     if f[0] == b'0' {
         if f.len() == 1 {
-            return Digits::Number(0);
+            return Amount::Of(0);
         }
-        return Digits::NoNumber;
+        return Amount::NoAmount;
     }
-    digits_of(f)
+    digits_of(f, most)
+}
+
+// A number as it is held: at most 9,999.
+pub fn number_of(f: &[u8]) -> Digits
+    ensures { λ r. ⌜ r ≡ cond (isNumber (now (f .entry))) (Number (capped (numberIn (now (f .entry))))) NoNumber ⌝ }
+{
+    match amount_of(f, HIGHEST_HELD) {
+        Amount::NoAmount => Digits::NoNumber,
+        Amount::Of(n) => Digits::Number(n as u32),
+    }
 }
 
 // Hexadecimal digits, in lower case.

@@ -2,6 +2,8 @@
 mod fields;
 mod lines;
 
+pub use fields::Amount;
+pub use fields::amount_of;
 pub use fields::end_of;
 pub use lines::line_of;
 

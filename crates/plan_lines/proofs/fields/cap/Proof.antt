@@ -1,14 +1,11 @@
 use native.Mathlib.Omega.{arith}
-use Rattle.plan_lines.specs.CappedLine.{capped}
 use Rattle.plan_lines.proofs.fields.cap.Statement.{statement}
 use Rattle.plan_lines.proofs.fields.cap.Tie as tie
 
 returns : tie.Need-returns
-unfolding capped
 returns c = omega arith
 
 returns-2 : tie.Need-returns-2
-unfolding capped
 returns-2 c = omega arith
 
 pub cap-spec : {M : Type 1} → statement M

@@ -1,0 +1,4 @@
+pub mod Event
+pub mod AnswerLine
+pub mod Log
+pub mod Read

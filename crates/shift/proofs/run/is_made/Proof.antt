@@ -1,0 +1,14 @@
+use native.Mathlib.Omega.{arith}
+use borrow.Author.Needs.{needs}
+use Rattle.events_shift.proofs.Bounds.{put-inside}
+use Rattle.shift.proofs.run.is_made.Statement.{statement}
+use Rattle.shift.proofs.run.is_made.Tie as tie
+
+part-write-all-end : tie.Need-part-write-all-end
+part-write-all-end c = put-inside _ _ 0 _ (c .before .before .put-fault .ensures) (omega arith)
+
+pub is-made-spec : {M : Type 1} → statement M
+is-made-spec =
+    tie.close
+    (tie.spec (search needs) (search needs) (search needs) (search needs) (search needs) (search needs) (search needs) (search needs)
+    part-write-all-end (search needs) (search needs) (search needs))
