@@ -18,18 +18,15 @@ CROSS = --target=x86_64-linux-gnu -isystem /usr/include/$(MACHINE)-linux-gnu -fP
 # The tests in Rust are for the machine itself, and so is what they link.
 ARCHIVES += $(NATIVE)/libtmavolice.a $(NATIVE)/libstate_probe.a
 
-# A time on an emulator says nothing. So what is timed is the product compiled for this machine, against C by its own compilers.
+# A time on an emulator says nothing, nor does what a program uses of memory there. So what is timed is the product compiled for this machine, against C by its own compilers.
 TIMES = native_times
-SHIFT_CHECK = native_shift_check
+SHIFT_CHECK =
 ON_ITSELF = LIBRARY_FOR=$(MACHINE) OUT=$(NATIVE) LIB=$(NATIVE)/libtmavolice.a OWN_SHIFT=$(NATIVE)/shift
-.PHONY: native_times native_shift_check
+.PHONY: native_times
 
 native_times:
 	@echo "The library compiled for $(MACHINE) by the kit's clang, to be timed:"
 	@$(MAKE) $(ON_ITSELF) times
-
-native_shift_check:
-	@$(MAKE) $(ON_ITSELF) shift_check
 
 # Else stack that a caller by clang gives back before it jumps to a call would be taken off that call's.
 $(OUT)/stack: CFLAGS += -fno-optimize-sibling-calls
