@@ -11,14 +11,15 @@ use Rattle.octets.specs.Text.{text, digit}
 use Rattle.plan.specs.Line.{joined, parted, field, isDigit, isNumber, spelled, numberIn}
 use Rattle.plan.specs.WrittenPlan.{decimal, hexDigit, tabbed}
 use Rattle.events.specs.Event.{Event, frame, tick, allow, prohibit, notice, restart, unreadable}
-use Rattle.events.specs.Event.{isCount, isHexDigit, isHexed, unhexed, isOctets, octetsIn}
+use Rattle.plan_lines.specs.Fields.{isHex}
+use Rattle.events.specs.Event.{isCount, isHexed, unhexed, isOctets, octetsIn}
 use Rattle.events.specs.Event.{asFrame, asNumbered, asNotice, byWord, eventOf}
 use Rattle.events.specs.AnswerLine.{Got, refused, answered, outcomes, inDecimal, hexed, inHex, placesOf, answerLine, faultLine}
 use Rattle.events.specs.Log.{fieldsOf, eventLine}
 
 -- A line read. To unfold it is to unfold all that reading computes.
 unfoldable pub read : List ℕ → Event
-unfolding eventOf byWord asNotice asNumbered asFrame octetsIn isOctets unhexed isHexed isHexDigit isCount numberIn spelled isNumber
+unfolding eventOf byWord asNotice asNumbered asFrame octetsIn isOctets unhexed isHexed isHex isCount numberIn spelled isNumber
     isDigit field parted joined digit text every within same
 read l = eventOf l
 

@@ -14,7 +14,8 @@ use Rattle.octets.proofs.Same.{both-true, other-length}
 use Rattle.plan.specs.Line.{numberIn}
 use Rattle.plan.proofs.WrittenNumbers.{decimal-back, decimal-is, high-digit, high-is}
 use Rattle.plan.proofs.WrittenFields.{plain, decimal-plain, digit-plain}
-use Rattle.events.specs.Event.{highest, isCount, isHexDigit, isHexed, unhexed, isOctets, octetsIn}
+use Rattle.plan_lines.specs.Fields.{isHex}
+use Rattle.events.specs.Event.{highest, isCount, isHexed, unhexed, isOctets, octetsIn}
 use Rattle.events.specs.AnswerLine.{inDecimal, hexed, inHex}
 use Rattle.events.proofs.Hexes.{hexed-length}
 
@@ -45,8 +46,8 @@ unhexed-hexed (x ∷ l) h =
     let e : x / 16 * 16 + x % 16 ≡ x = omega arith in
     rw (high-digit (x / 16) (omega arith), high-digit (x % 16) (omega arith), unhexed-hexed l (b .1), e)
 
-hexed-digits : (l : List ℕ) → fit l → every isHexDigit (hexed l) ≡ true
-unfolding isHexDigit hexed every
+hexed-digits : (l : List ℕ) → fit l → every isHex (hexed l) ≡ true
+unfolding isHex hexed every
 hexed-digits [] h = refl
 hexed-digits (x ∷ l) h =
     let b : _ = both-true (leb x 255) (every (λ (x : ℕ). leb x 255) l) h in

@@ -18,7 +18,8 @@ use Rattle.octets.proofs.Cases.{by-le}
 use Rattle.octets.proofs.ListLaws.{within-low, within-high}
 use Rattle.octets.proofs.Zero.{or-eqb}
 use Rattle.plan.specs.Line.{isDigit}
-use Rattle.events.specs.Event.{isHexDigit, unhexed}
+use Rattle.plan_lines.specs.Fields.{isHex}
+use Rattle.events.specs.Event.{unhexed}
 
 -- a number above the range is not in it
 above : (low high x : ℕ) → high < x → within low high x ≡ false
@@ -26,14 +27,14 @@ unfolding within
 above low high x h = rw (lt-leb x high h) (by-le low x (λ e k. rw e) (λ e k. rw e))
 
 -- a digit stands from `0` on; one above `9` is a letter
-module _ (x : ℕ) (t : isHexDigit x ≡ true) where
+module _ (x : ℕ) (t : isHex x ≡ true) where
   pub from-zero : 48 ≤ x
-  unfolding isHexDigit isDigit within
+  unfolding isHex isDigit within
   from-zero =
       by-le 48 x (λ e h. h) (λ e h. absurd (false≢true (simp (e, lt-leb 97 x (omega arith)) at t)))
 
   pub a-letter : 57 < x → (97 ≤ x) × (x ≤ 102)
-  unfolding isHexDigit isDigit
+  unfolding isHex isDigit
   a-letter k =
       let w : within 97 102 x ≡ true = rw (above 48 57 x k) at t in
       (within-low 97 102 x w, within-high 97 102 x w)
@@ -44,21 +45,21 @@ flag true = refl
 flag false = refl
 
 -- a turn of the loop that ORs a flag of each octet, and its end
-pub digits-turn : (f : List ℕ) (i any : ℕ) {r : ℕ} → i < length f → r ≡ cond (isHexDigit (getD f i 0)) 0 1
-    → (eqb (bitOr any r) 0 && every isHexDigit (drop (i + 1) f)) ≡ (eqb any 0 && every isHexDigit (drop i f))
+pub digits-turn : (f : List ℕ) (i any : ℕ) {r : ℕ} → i < length f → r ≡ cond (isHex (getD f i 0)) 0 1
+    → (eqb (bitOr any r) 0 && every isHex (drop (i + 1) f)) ≡ (eqb any 0 && every isHex (drop i f))
 unfolding every
 digits-turn f i any h e = rw e (simp (or-eqb, flag, add-one, drop-cons f i 0 h, and-assoc))
 
-pub digits-end : (f : List ℕ) (i any : ℕ) → length f ≤ i → (eqb any 0 && every isHexDigit (drop i f)) ≡ eqb any 0
+pub digits-end : (f : List ℕ) (i any : ℕ) → length f ≤ i → (eqb any 0 && every isHex (drop i f)) ≡ eqb any 0
 unfolding every
 digits-end f i any h = simp (drop-of-length-le f h, and-true)
 
 -- where every octet is a digit, the one at each place is
-pub digit-at : (f : List ℕ) → every isHexDigit f ≡ true → (i : ℕ) → i < length f → isHexDigit (getD f i 0) ≡ true
+pub digit-at : (f : List ℕ) → every isHex f ≡ true → (i : ℕ) → i < length f → isHex (getD f i 0) ≡ true
 unfolding every
 digit-at [] h i k = absurd (omega arith)
-digit-at (x ∷ f) h zero k = both-true (isHexDigit x) (every isHexDigit f) h .0
-digit-at (x ∷ f) h (suc i) k = digit-at f (both-true (isHexDigit x) (every isHexDigit f) h .1) i (omega arith)
+digit-at (x ∷ f) h zero k = both-true (isHex x) (every isHex f) h .0
+digit-at (x ∷ f) h (suc i) k = digit-at f (both-true (isHex x) (every isHex f) h .1) i (omega arith)
 
 -- two digits are one octet: how many octets there are, and the one at each place
 pub unhexed-length : (f : List ℕ) → length (unhexed f) ≡ length f / 2

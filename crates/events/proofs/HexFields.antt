@@ -12,7 +12,8 @@ use Rattle.octets.specs.Text.{text}
 use Rattle.plan_lines.proofs.ByFields.{is-some, is-none}
 use Rattle.events.specs.declared.fields.Octets.{Octets}
 use Rattle.events.specs.declared.fields.Octets.the-variants.{NoOctets, Many}
-use Rattle.events.specs.Event.{isHexDigit, isHexed, unhexed, isOctets, octetsIn}
+use Rattle.plan_lines.specs.Fields.{isHex}
+use Rattle.events.specs.Event.{isHexed, unhexed, isOctets, octetsIn}
 use Rattle.events.specs.Read.{HexAs}
 use Rattle.events.proofs.HexDigits.{unhexed-length}
 
@@ -42,14 +43,14 @@ module _ (f room : List ℕ) where
     unfolding isHexed
     uneven n = not-hexed (simp (ne-eqb (length f % 2) 0 n, and-false))
 
-    pub no-digits : every isHexDigit f ≡ false → HexAs f NoOctets room room
+    pub no-digits : every isHex f ≡ false → HexAs f NoOctets room room
     unfolding isHexed
     no-digits e = not-hexed (simp (e, and-false))
 
     hexed : isHexed f ≡ true → {after : List ℕ} → after ≡ over (unhexed f) room → HexAs f (Many (length f / 2)) room after
     hexed e w = record { told = rw (is-hex, e, in-hex, unhexed-length f); octets = w ∙ rw (is-hex, e, in-hex) }
 
-    pub digits : 2 ≤ length f → length f % 2 ≡ 0 → every isHexDigit f ≡ true → {after : List ℕ}
+    pub digits : 2 ≤ length f → length f % 2 ≡ 0 → every isHex f ≡ true → {after : List ℕ}
         → after ≡ over (unhexed f) room
         → HexAs f (Many (length f / 2)) room after
     unfolding isHexed

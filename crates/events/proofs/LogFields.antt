@@ -17,7 +17,8 @@ use Rattle.plan.specs.Line.{tab, lf, joined, parted, isDigit, isNumber, numberI
 use Rattle.plan.proofs.WrittenFields.{plain, plain-free, parted-only}
 use Rattle.plan_lines.proofs.Parts.{some-part}
 use Rattle.plan_lines.proofs.ByFields.{by-test}
-use Rattle.events.specs.Event.{highest, isCount, isHexDigit, isHexed, isOctets}
+use Rattle.plan_lines.specs.Fields.{isHex}
+use Rattle.events.specs.Event.{highest, isCount, isHexed, isOctets}
 use Rattle.events.proofs.HexDigits.{from-zero}
 
 -- one part is the whole
@@ -64,5 +65,5 @@ octets-plain l h =
     by-test (same l (text "-")) (λ e. rw (same-equal l (text "-") e) refl)
     (λ e.
     let k : isHexed l ≡ true = rw e at h in
-    let b : _ = both-true (leb 2 (length l) && eqb (length l % 2) 0) (every isHexDigit l) k in
-    every-such isHexDigit (ltb lf) (λ y t. lt-ltb lf y (omega (arith, from-zero y t))) l (b .1))
+    let b : _ = both-true (leb 2 (length l) && eqb (length l % 2) 0) (every isHex l) k in
+    every-such isHex (ltb lf) (λ y t. lt-ltb lf y (omega (arith, from-zero y t))) l (b .1))

@@ -5,9 +5,10 @@ use Prim.Native.Nat.{ℕ, _+_, _*_, _%_}
 use lib.ListN.{length}
 use lib.Dec.{eqb, leb}
 use Rattle.octets.specs.Octets.{same}
-use Rattle.octets.specs.Lists.{within, every}
+use Rattle.octets.specs.Lists.{every}
 use Rattle.octets.specs.Text.{text, digit}
-use Rattle.plan.specs.Line.{tab, parted, field, isDigit, isNumber, numberIn}
+use Rattle.plan.specs.Line.{tab, parted, field, isNumber, numberIn}
+use Rattle.plan_lines.specs.Fields.{isHex}
 
 -- `frame`, port, side, hex; `tick`, reading; `allow` or `prohibit`, flow; `notice`; `restart`, reading; or a line that can't be read
 pub data Event : Type 0 where
@@ -31,11 +32,8 @@ unfoldable pub isCount : List ℕ → Bool
 isCount l = isNumber l && leb (numberIn l) highest
 
 -- Hex is lower case: an even number of digits, two an octet.
-unfoldable pub isHexDigit : ℕ → Bool
-isHexDigit x = isDigit x || within 97 102 x
-
 unfoldable pub isHexed : List ℕ → Bool
-isHexed l = leb 2 (length l) && eqb (length l % 2) 0 && every isHexDigit l
+isHexed l = leb 2 (length l) && eqb (length l % 2) 0 && every isHex l
 
 unfoldable pub unhexed : List ℕ → List ℕ
 unhexed [] = []

@@ -7,7 +7,8 @@ ghost use Rattle.octets.specs.Octets.{over};
 ghost use Rattle.octets.specs.Lists.{within, every};
 ghost use Rattle.octets.specs.Text.{digit};
 ghost use Rattle.plan.specs.WrittenPlan.{hexDigit};
-ghost use Rattle.events.specs.Event.{isHexDigit, unhexed};
+ghost use Rattle.plan_lines.specs.Fields.{isHex};
+ghost use Rattle.events.specs.Event.{unhexed};
 ghost use Rattle.events.specs.AnswerLine.{hexed};
 
 // What is taken from a letter, or added to it: `a` counts 10.
@@ -28,14 +29,14 @@ fn beyond(x: u8, low: u8, high: u8) -> u8
 
 // 0 for a digit, 1 for any other octet.
 fn odd(x: u8) -> u8
-    ensures { λ r. ⌜ r ≡ cond (isHexDigit x) 0 1 ⌝ }
+    ensures { λ r. ⌜ r ≡ cond (isHex x) 0 1 ⌝ }
 {
     beyond(x, b'0', b'9') * beyond(x, b'a', b'f')
 }
 
 // Is every octet a digit? Without a branch in the loop.
 pub fn all_digits(f: &[u8]) -> bool
-    ensures { λ r. ⌜ r ≡ every isHexDigit (now (f .entry)) ⌝ }
+    ensures { λ r. ⌜ r ≡ every isHex (now (f .entry)) ⌝ }
 {
     let mut any = 0;
     let mut i = 0;
@@ -48,7 +49,7 @@ pub fn all_digits(f: &[u8]) -> bool
 
 // What a digit counts.
 fn value_of(x: u8) -> u8
-    requires { ⌜ isHexDigit x ≡ true ⌝ }
+    requires { ⌜ isHex x ≡ true ⌝ }
     ensures { λ r. ⌜ (r ≡ digit x) × (r < 16) ⌝ }
 {
     if x <= b'9' {
@@ -59,7 +60,7 @@ fn value_of(x: u8) -> u8
 
 // The octets that digits are, two each.
 pub fn unhex(room: &mut [u8], f: &[u8])
-    requires { ⌜ (every isHexDigit (now f) ≡ true) × (length (now f) ≤ 2 * length (now room)) ⌝ }
+    requires { ⌜ (every isHex (now f) ≡ true) × (length (now f) ≤ 2 * length (now room)) ⌝ }
     ensures { λ _. ⌜ now (room .exit) ≡ over (unhexed (now (f .entry))) (now (room .entry)) ⌝ }
 {
     let n = f.len() / 2;

@@ -9,7 +9,7 @@ use Rattle.events.proofs.Examples.{read, print}
 use Rattle.events.specs.AnswerLine.{faultLine}
 use Rattle.events_shift.specs.Lines.{closed, linesIn, kept, cutAt, cut, arriving}
 use Rattle.events_shift.specs.Step.{entered as called, wordOf, gotOf, printed, step}
-use Rattle.events_shift.specs.Shift.{printedFor, madeThen, played, isName, shift}
+use Rattle.events_shift.specs.Shift.{printedFor, isFaulty, faultOf, madeThen, made, played, isName, shift}
 
 -- Nothing behind the last LF is no line; anything there is one. An empty line is a line.
 lines-by-their-lf :
@@ -30,7 +30,7 @@ lines-in-pieces = (refl, refl)
 
 -- a run with the bench plan under every name
 run : List ℕ → List ℕ
-unfolding everything read print linesIn closed called wordOf gotOf printed step printedFor madeThen played isName shift
+unfolding everything read print linesIn closed called wordOf gotOf printed step printedFor isFaulty faultOf madeThen made played isName shift
 run input = shift (λ name. benchPlan) input
 
 the-requests-own-run :

@@ -4,6 +4,7 @@ mod KeptLaws
 mod Measured
 pub mod RoomFree
 pub mod RunLaws
+mod ReadyLaws
 mod StepLaws
 mod StepTaken
 mod ServeLaws

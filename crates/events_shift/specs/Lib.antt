@@ -4,3 +4,4 @@ pub mod Step
 pub mod Held
 pub mod Served
 pub mod Shift
+pub mod Ready

@@ -17,16 +17,23 @@ printedFor image number [] = []
 printedFor image number (line ∷ lines) =
     step image number line .line ++ printedFor (step image number line .image) (number + 1) lines
 
--- A faulty plan (outcome 7: bits 8 to 15 the reason, 32 to 63 the line) is printed, and ends the run. Else lines are numbered from 1.
+-- A faulty plan (outcome 7: bits 8 to 15 the reason, 32 to 63 the line) is printed,
+unfoldable pub isFaulty : Entered → Bool
+isFaulty x = eqb (x .number % 2 ^ 8) 7
+
+unfoldable pub faultOf : Entered → List ℕ
+faultOf x = cond (isFaulty x) (faultLine (x .number / 2 ^ 32) (x .number / 2 ^ 8 % 2 ^ 8)) []
+
+-- and ends the run. Else lines are numbered from 1.
 unfoldable pub madeThen : Entered → List (List ℕ) → List ℕ
-madeThen x lines =
-    cond (eqb (x .number % 2 ^ 8) 7)
-    (faultLine (x .number / 2 ^ 32) (x .number / 2 ^ 8 % 2 ^ 8))
-    (printedFor (x .image) 1 lines)
+madeThen x lines = cond (isFaulty x) (faultOf x) (printedFor (x .image) 1 lines)
 
 -- From clock 0.
+unfoldable pub made : List ℕ → List ℕ → Entered
+made image plan = enter image (make plan 0)
+
 unfoldable pub played : List ℕ → List (List ℕ) → List ℕ
-played plan lines = madeThen (enter (replicate 4096 0) (make plan 0)) lines
+played plan lines = madeThen (made (replicate 4096 0) plan) lines
 
 -- An empty name, one of more than 4,100 octets and one with a NUL name no file.
 unfoldable pub isName : List ℕ → Bool

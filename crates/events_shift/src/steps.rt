@@ -26,8 +26,8 @@ pub const OUT_ROOM: usize = 2008;
 // What a line that can't be read is answered: refused, with 9.
 const CANNOT_BE_READ: u64 = 9 * 256;
 
-// The number above the low 32 bits of an answer: the length written.
-const LENGTHS: u64 = 4294967296;
+// What stands above the low 32 bits of an answer is the length written, or the line of a faulty plan.
+pub const LENGTHS: u64 = 4294967296;
 
 pub fn least(a: usize, b: usize) -> usize
     ensures { λ r. ⌜ r ≡ min a b ⌝ }

@@ -3,18 +3,24 @@ mod files;
 mod input;
 mod run;
 
+use events_shift::make_unit;
 use files::plan_text;
 use input::behind;
 use input::first_line;
 use input::line_end;
-use run::is_made;
 use run::run_all;
 
-// The line that names the plan file is read, and the unit made.
-fn is_ready(image: &mut [u8], line: &[u8]) -> bool {
+// The unit is made of the plan file that is named. A faulty plan is told, and there is no unit.
+fn is_ready(image: &mut [u8], name: &[u8]) -> bool {
     let mut text = [0u8; 8193];
-    let n = plan_text(line, &mut text);
-    is_made(image, &text[0..n])
+    let mut out = [0u8; 48];
+    let n = plan_text(name, &mut text);
+    let told = make_unit(image, &text[0..n], &mut out);
+    if told == 0 {
+        return true;
+    }
+    io::write_all(libc::STDOUT_FILENO, &out[0..told]);
+    false
 }
 
 fn main() {

@@ -2,17 +2,10 @@
 use crate::input::Input;
 use crate::input::read_on;
 use events::FRAME_ROOM;
-use events::put_fault;
 use events_shift::OUT_ROOM;
 use events_shift::serve_lines;
 use events_shift::step;
-use tmavolice::tmavolice_make;
 ghost use Rattle.shift.specs.Inside.{Inside, Rooms};
-
-// The outcome of a faulty plan, and where an answer's number has the line.
-const FAULT: u64 = 7;
-
-const LINES: u64 = 4294967296;
 
 // No input has as many lines.
 const MOST_LINES: u64 = 9223372036854775808;
@@ -22,18 +15,6 @@ pub struct Stand {
     input: Input,
     number: u64,
     goes: bool,
-}
-
-// Makes the unit at clock 0. A faulty plan is told.
-pub fn is_made(image: &mut [u8], text: &[u8]) -> bool {
-    let answer = tmavolice_make(image, text, 0);
-    if answer % 256 != FAULT {
-        return true;
-    }
-    let mut out = [0; 64];
-    let n = put_fault(&mut out, 0, answer / LINES, (answer / 256 % 256) as u8);
-    io::write_all(libc::STDOUT_FILENO, &out[0..n]);
-    false
 }
 
 // The last line, which no LF ends.

@@ -3,7 +3,7 @@
 use std::thread;
 
 use random::{given_seed, tell};
-use shift_model::slips::Slip;
+use shift_model::slips::{self, Slip};
 use shift_runs::{bites, Place, Starter};
 
 /// All of them are among the logs that program and model are compared on.
@@ -13,7 +13,7 @@ const THREADS: usize = 2;
 /// The slip shows in a log of the model, and the same log of the program shows it too.
 #[test]
 fn bites() {
-    let (slips, starter) = (Slip::all(), Starter::new());
+    let (slips, starter) = (slips::all(), Starter::new());
     let part = slips.len().div_ceil(THREADS);
     let hidden: Vec<Slip> = thread::scope(|scope| {
         let running: Vec<_> = slips.chunks(part).map(|part| scope.spawn(|| hidden(part, &starter))).collect();

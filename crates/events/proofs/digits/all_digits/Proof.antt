@@ -6,13 +6,13 @@ use lib.Dec.{eqb}
 use lib.ListN.{length, drop}
 use denote.Ref.{now}
 use Rattle.octets.specs.Lists.{every}
-use Rattle.events.specs.Event.{isHexDigit}
+use Rattle.plan_lines.specs.Fields.{isHex}
 use Rattle.events.proofs.HexDigits.{digits-turn, digits-end}
 use Rattle.events.proofs.digits.all_digits.Statement.{statement}
 use Rattle.events.proofs.digits.all_digits.Tie as tie
 
 abbrev Inv-loop : tie.InvT-loop
-Inv-loop f any₀ i₀ any i = (eqb any 0 && every isHexDigit (drop i f)) ≡ every isHexDigit f
+Inv-loop f any₀ i₀ any i = (eqb any 0 && every isHex (drop i f)) ≡ every isHex f
 
 abbrev μ-loop : tie.MeasureT-loop
 μ-loop f any₀ i₀ any i = length f - i

@@ -5,7 +5,7 @@ use native.Mathlib.Omega.{arith}
 use borrow.Author.Needs.{needs}
 use Rattle.octets.specs.Lists.{within}
 use Rattle.plan.specs.Line.{isDigit}
-use Rattle.events.specs.Event.{isHexDigit}
+use Rattle.plan_lines.specs.Fields.{isHex}
 use Rattle.events.proofs.digits.odd.Statement.{statement}
 use Rattle.events.proofs.digits.odd.Tie as tie
 
@@ -24,7 +24,7 @@ mul-result c =
     omega (arith, small)
 
 returns : tie.Need-returns
-unfolding isHexDigit isDigit
+unfolding isHex isDigit
 returns c =
     let x : ℕ = c .before .before .args .x in
     rw (c .before .beyond .ensures, c .beyond2 .ensures) (both (within 48 57 x) (within 97 102 x) .0)

@@ -18,13 +18,13 @@ use std::fmt;
 
 use crate::Rules;
 
-#[derive(Clone, Copy)]
-pub struct Slip {
+/// Of the rules of a model, this one's or another's.
+pub struct Slip<R = Rules> {
     /// What happens that should not, in a word.
     pub name: &'static str,
     /// The same as a sentence.
     pub says: &'static str,
-    replaces: fn(&mut Rules),
+    replaces: fn(&mut R),
 }
 
 impl Slip {
@@ -50,21 +50,37 @@ impl Slip {
         let found = Slip::all().into_iter().find(|slip| slip.name == name);
         found.unwrap_or_else(|| panic!("no slip of the model is called {name}"))
     }
+}
 
+impl<R> Slip<R> {
+    pub const fn new(name: &'static str, says: &'static str, replaces: fn(&mut R)) -> Slip<R> {
+        Slip { name, says, replaces }
+    }
+}
+
+impl<R: Default> Slip<R> {
     /// The paper's rules with this slip in them.
-    pub fn rules(self) -> Rules {
-        let mut rules = Rules::default();
+    pub fn rules(self) -> R {
+        let mut rules = R::default();
         (self.replaces)(&mut rules);
         rules
     }
 }
 
-impl fmt::Debug for Slip {
+impl<R> Clone for Slip<R> {
+    fn clone(&self) -> Slip<R> {
+        *self
+    }
+}
+
+impl<R> Copy for Slip<R> {}
+
+impl<R> fmt::Debug for Slip<R> {
     fn fmt(&self, f: &mut fmt::Formatter) -> fmt::Result {
         write!(f, "{} ({})", self.name, self.says)
     }
 }
 
 const fn slip(name: &'static str, says: &'static str, replaces: fn(&mut Rules)) -> Slip {
-    Slip { name, says, replaces }
+    Slip::new(name, says, replaces)
 }
