@@ -1,4 +1,4 @@
-.PHONY: run library shift test wrong bench soak
+.PHONY: run library shift test wrong bench stack soak
 
 # The paper's bench cases B1 to B12, played on the C entries of the proved library.
 run:
@@ -23,6 +23,10 @@ wrong:
 # The proved code against C, in one run: a line a case, ending in the ratio.
 bench:
 	@$(MAKE) -s -C host bench
+
+# The stack of every call, a line each: of the library for x86-64 and, where the machine is another, of the one for it.
+stack:
+	@$(MAKE) -s -C host stack
 
 # The unit against the model on fresh seeds, up to the first difference: for SECONDS, or until it is stopped; from SEED on.
 soak:

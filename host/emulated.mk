@@ -18,18 +18,20 @@ CROSS = --target=x86_64-linux-gnu -isystem /usr/include/$(MACHINE)-linux-gnu -fP
 # The tests in Rust are for the machine itself, and so is what they link.
 ARCHIVES += $(NATIVE)/libtmavolice.a $(NATIVE)/libstate_probe.a
 
-# A time on an emulator says nothing, nor does what a program uses of memory there. So what is timed is the product compiled for this machine, against C by its own compilers.
+# A time on an emulator says nothing, nor does what a program uses of memory there. So what is timed is the product compiled for this
+# machine, against C by its own compilers. Of that product the stack is measured too.
 TIMES = native_times
+NATIVE_STACK = native_stack
 SHIFT_CHECK =
 ON_ITSELF = LIBRARY_FOR=$(MACHINE) OUT=$(NATIVE) LIB=$(NATIVE)/libtmavolice.a OWN_SHIFT=$(NATIVE)/shift
-.PHONY: native_times
+.PHONY: native_stack native_times
+
+native_stack: $(NATIVE)/libtmavolice.a
+	@$(MAKE) -s $(ON_ITSELF) painted
 
 native_times:
 	@echo "The library compiled for $(MACHINE) by the kit's clang, to be timed:"
 	@$(MAKE) $(ON_ITSELF) times
-
-# Else stack that a caller by clang gives back before it jumps to a call would be taken off that call's.
-$(OUT)/stack: CFLAGS += -fno-optimize-sibling-calls
 
 # By this program a test in Rust makes calls of the library for x86-64.
 programs: $(OUT)/served

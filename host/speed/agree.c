@@ -1,28 +1,17 @@
 #include "agree.h"
 #include "plans.h"
+#include "seen.h"
 #include <stdio.h>
 #include <string.h>
 
 enum { CALLS = 100000 };
-
-/* Which outcomes, which refusals and which codes of replies there were, a bit each. */
-static unsigned outcomes, refusals, codes;
-
-static void note(uint64_t answer, const uint8_t *out) {
-    unsigned outcome = answer & 255;
-    outcomes |= 1u << outcome;
-    if (outcome == 0)
-        refusals |= 1u << (answer >> 8 & 255);
-    if (outcome == 4 || outcome == 5)
-        codes |= 1u << out[out[12] == 0x89 ? 19 : 23];
-}
 
 int same_for(const struct unit *c, const struct event *e, uint8_t *image, uint64_t *answer) {
     static uint8_t other[4096], out[2][2048];
     memcpy(other, image, 4096);
     memset(out, (int)e->number, sizeof out);
     uint64_t a = carried_out(&ours, e, image, out[0]), b = carried_out(c, e, other, out[1]);
-    note(a, out[0]);
+    see(e, a, out[0]);
     *answer = a;
     if (a == b && memcmp(image, other, 4096) == 0 && memcmp(out[0], out[1], 2048) == 0)
         return 1;
@@ -60,9 +49,5 @@ int agree(void) {
             return 0;
         printf("ours and %s agree on %d calls\n", c->name, 6 * CALLS);
     }
-    if (outcomes != 0x7f || refusals != 0x1fe || codes != 0x7f7) {
-        fprintf(stderr, "not every outcome (%x), refusal (%x) and code (%x) was seen\n", outcomes, refusals, codes);
-        return 0;
-    }
-    return 1;
+    return all_seen();
 }

@@ -34,7 +34,7 @@ static void make(uint8_t *image, const char *plan) {
     insist(tmavolice_make(image, 4096, (const uint8_t *)plan, strlen(plan), 0), DONE);
 }
 
-static void open_on(uint8_t *image, int row) {
+void open_on(uint8_t *image, int row) {
     uint8_t out[2008];
     struct path p = path_to(image, row);
     struct frame f = request_frame(p.way, p.level, ACTIVATE, 86400);

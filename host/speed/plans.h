@@ -12,6 +12,9 @@ struct path {
 
 struct path path_to(const uint8_t *image, int row);
 
+/* Opens a session of 86,400 seconds at the end of that path. */
+void open_on(uint8_t *image, int row);
+
 /* The paper's bench plan with its one session, of 86,400 seconds. */
 void bench_unit(uint8_t *image);
 

@@ -1,79 +1,110 @@
-/* The deepest stack of our calls: a line for each kind of frame that is named here, then one for each call, the deepest of many
- * drawn at random. Fails if a frame call uses 1,024 octets or more. */
+/* The deepest stack of our calls: of each kind of frame at every length, of each call among many of every kind, and of making. Fails
+ * where one reaches its limit, and where a call was not seen to answer all that it can. */
+#include "kinds.h"
+#include "makings.h"
 #include "paint.h"
-#include "plans.h"
+#include "seen.h"
+#include "tmavolice.h"
 #include <stdio.h>
+#include <string.h>
 
-enum { CALLS = 20000, LIMIT = 1024 };
-enum { FORWARD = 1, DROP = 2, LOOP = 3, REPLY = 4, BOTH = 5, DONE = 6, FAULT = 7 };
+enum { CALLS = 20000, LIMIT = 512, LIMIT_OF_MAKING = 4096 };
 
-static uint8_t image[4096];
-static int deepest[6], right = 1;
+static uint8_t image[4096], out[2048];
+static int right = 1;
 
-static void show(unsigned outcome, const char *name, struct path p, struct frame f) {
-    struct event e = {.call = FRAME, .number = p.port, .side = p.side, .frame = f, .image_len = 4096, .out_len = 2048};
-    uint64_t answer;
-    int n = depth_of(&e, image, &answer);
-    deepest[FRAME] = n > deepest[FRAME] ? n : deepest[FRAME];
-    printf("frame: %-42s %4d octets of stack\n", name, n);
-    right &= (answer & 255) == outcome;
+static int larger(int a, int b) {
+    return a > b ? a : b;
 }
 
-static struct frame state_with(struct path p, int tlvs, size_t len) {
-    struct frame f = request_frame(p.way, p.level, STATE, 0);
-    while (tlvs-- > 0)
-        f = with_tlv(f, 9, len, 1);
-    return f;
-}
-
-static void show_frames(void) {
-    full_unit(image);
-    struct path p = path_to(image, 31), none = p, group = p, other = p, mip = path_to(image, 29);
-    none.way.vid = 4000;
-    group.way.to = 0xffffffffffff;
-    other.side = 1 - p.side;
-    mip.way.to = 0x0180c2000038 + mip.level;
-    show(FORWARD, "a frame of no flow forwarded", none, data_frame(none.way, 64));
-    show(FORWARD, "data forwarded", path_to(image, 30), data_frame(path_to(image, 30).way, 1500));
-    show(DROP, "data dropped", other, data_frame(p.way, 1500));
-    show(LOOP, "1,500 octets looped", p, data_frame(p.way, 1500));
-    show(LOOP, "1,500 octets to a group looped", group, data_frame(group.way, 1500));
-    show(REPLY, "Activate, refreshing", p, request_frame(p.way, p.level, ACTIVATE, 60));
-    show(REPLY, "Deactivate", p, request_frame(p.way, p.level, DEACTIVATE, 0));
-    show(REPLY, "Activate, opening", p, request_frame(p.way, p.level, ACTIVATE, 60));
-    show(REPLY, "State with one unknown TLV, 2,000 octets", p, state_with(p, 1, 1966));
-    show(REPLY, "State with 600 unknown TLVs", p, state_with(p, 600, 0));
-    show(BOTH, "State at a MIP, multicast", mip, state_with(mip, 1, 40));
-    show(REPLY, "a malformed State", p, with_tlv(request_frame(p.way, p.level, STATE, 0), 37, 0, 0));
-}
-
-static void draw(void (*make)(uint8_t *)) {
-    uint64_t random = 0x2545f4914f6cdd1d, answer;
-    make(image);
-    for (int i = 0; i < CALLS; i++) {
-        struct event e = any_event(image, &random);
-        int n = depth_of(&e, image, &answer);
-        deepest[e.call] = n > deepest[e.call] ? n : deepest[e.call];
+static void tell(const char *call, const char *name, int depth, int limit) {
+    printf("%-8s %-40s %4d octets of stack\n", call, name, depth);
+    if (depth >= limit) {
+        fprintf(stderr, "%s, %s: not below %d octets of stack\n", call, name, limit);
+        right = 0;
     }
 }
 
-static void show_make(unsigned outcome, const char *name, const char *plan) {
-    uint64_t answer;
-    printf("make: %-43s %4d octets of stack\n", name, depth_of_make(plan, image, &answer));
-    right &= (answer & 255) == outcome;
+static void tell_making(const char *name, int depth) {
+    tell("make", name, depth, LIMIT_OF_MAKING);
+}
+
+/* A kind of frame at every length, on the flow of one tag. */
+static int deepest_of_lengths(const struct unit *u, const struct kind *k, const uint8_t *start, int row) {
+    struct path p = k->path(start, row);
+    size_t least = k->least + (p.way.tag == UNTAGGED ? 0 : 4);
+    struct event e = {.call = FRAME, .number = p.port, .side = p.side, .image_len = sizeof image, .out_len = TMAVOLICE_OUT_LEN};
+    int deepest = 0;
+    for (size_t len = 0; len <= LONGEST; len++) {
+        uint64_t answer;
+        e.frame = k->frame(p, len);
+        memcpy(image, start, sizeof image);
+        deepest = larger(deepest, depth_of(u, &e, image, out, &answer));
+        see(&e, answer, out);
+        if (len >= least && len <= TMAVOLICE_FRAME_MAX && tmavolice_outcome_of(answer) != k->outcome) {
+            fprintf(stderr, "%s, %zu octets: it is not so (%llx)\n", k->name, len, (unsigned long long)answer);
+            right = 0;
+        }
+    }
+    return deepest;
+}
+
+/* What would be wrong: a unit that turns a frame round in a buffer of its own. */
+static uint64_t frame_by_own_buffer(uint8_t *b, size_t n, uint32_t port, uint32_t side, const uint8_t *f, size_t f_len, uint8_t *to,
+                                    size_t to_len) {
+    uint8_t own[TMAVOLICE_OUT_LEN] = {0};
+    uint64_t answer = tmavolice_frame(b, n, port, side, f, f_len, own, to_len);
+    memcpy(to, own, tmavolice_length_of(answer));
+    return answer;
+}
+
+static const struct unit by_own_buffer = {.name = "by an own buffer", .frame = frame_by_own_buffer};
+
+/* Would its stack be seen? */
+static void insist_on_paint(const struct kind *k, const uint8_t *start, int row) {
+    if (deepest_of_lengths(&by_own_buffer, k, start, row) < TMAVOLICE_OUT_LEN) {
+        fprintf(stderr, "%s: a buffer of %d octets was not seen\n", k->name, TMAVOLICE_OUT_LEN);
+        right = 0;
+    }
+}
+
+static void tell_frames(void) {
+    static uint8_t start[4096];
+    int rows[TAGS];
+    unit_with_sessions(start, rows);
+    for (int i = 0; i < count_of_kinds; i++) {
+        int deepest = 0;
+        for (int tag = 0; tag < TAGS; tag++)
+            deepest = larger(deepest, deepest_of_lengths(&ours, &kinds[i], start, rows[tag]));
+        tell("frame", kinds[i].name, deepest, LIMIT);
+        if (kinds[i].outcome == TMAVOLICE_LOOP)
+            insist_on_paint(&kinds[i], start, rows[0]);
+    }
+}
+
+static void draw(void (*make_unit)(uint8_t *), int *deepest) {
+    uint64_t random = 0x2545f4914f6cdd1d, answer;
+    make_unit(image);
+    for (int i = 0; i < CALLS; i++) {
+        struct event e = any_event(image, &random);
+        deepest[e.call] = larger(deepest[e.call], depth_of(&ours, &e, image, out, &answer));
+        see(&e, answer, out);
+    }
+}
+
+static void tell_calls(void) {
+    static const char *const names[] = {"frame", "tick", "allow", "prohibit", "notice", "restart"};
+    int deepest[6] = {0};
+    draw(bench_unit, deepest);
+    draw(full_unit, deepest);
+    draw(mixed_unit, deepest);
+    for (int i = 0; i < 6; i++)
+        tell(names[i], "the deepest of many, drawn at random", deepest[i], LIMIT);
 }
 
 int main(void) {
-    static const char *const names[] = {"frame", "tick", "allow", "prohibit", "notice", "restart"};
-    char plan[4096];
-    show_frames();
-    full_plan(plan);
-    show_make(DONE, "the full plan", plan);
-    show_make(FAULT, "a faulty plan", "port\t1\tuni\t020000000001\nflow\t1\t2\tu\t0\n");
-    draw(bench_unit);
-    draw(full_unit);
-    draw(mixed_unit);
-    for (int i = 0; i < 6; i++)
-        printf("%s: %d octets of stack, the deepest among %d calls of every kind\n", names[i], deepest[i], 3 * CALLS);
-    return !right || deepest[FRAME] >= LIMIT;
+    tell_frames();
+    tell_calls();
+    right &= tell_makings(tell_making);
+    return !(right & all_seen());
 }

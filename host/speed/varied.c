@@ -28,7 +28,7 @@ struct event any_event(const uint8_t *image, uint64_t *random) {
     for (int i = 0; i < 16; i++)
         due |= image[1536 + 32 * i + 12];
     e.call = which < 85 ? FRAME : which < 88 ? TICK : which < 95 ? ALLOW : which < 97 ? PROHIBIT : which < 99 ? NOTICE : RESTART;
-    if (due && which % 4 != 0)
+    if (due && !one_in(random, 4))
         e.call = NOTICE;
     if (one_in(random, 100))
         e.out_len = 2000 + below(random, 9);
