@@ -14,7 +14,7 @@ shift:
 
 # The layout of every file; every proof and program, from nothing; every wrong program; then the host's tests.
 test:
-	@host/test.sh
+	@host/in_memory.sh host/test.sh
 
 # Every wrong program, many in one check; or those of some crates, as in `make wrong CRATES="codec machine"`.
 wrong:

@@ -14,4 +14,4 @@ wanted=$(awk -F: -v named="$*" '
     }' crates.txt)
 # shellcheck disable=SC2086
 set -- $wanted
-rt check "$@" 2>&1 | host/progress.sh $#
+host/in_memory.sh rt check "$@" 2>&1 | host/progress.sh $#
