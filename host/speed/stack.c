@@ -60,9 +60,9 @@ static uint64_t frame_by_own_buffer(uint8_t *b, size_t n, uint32_t port, uint32_
 
 static const struct unit by_own_buffer = {.name = "by an own buffer", .frame = frame_by_own_buffer};
 
-/* Would its stack be seen? */
-static void insist_on_paint(const struct kind *k, const uint8_t *start, int row) {
-    if (deepest_of_lengths(&by_own_buffer, k, start, row) < TMAVOLICE_OUT_LEN) {
+/* Would its stack be seen, all of the buffer below which ours begins? */
+static void insist_on_paint(const struct kind *k, const uint8_t *start, int row, int without) {
+    if (deepest_of_lengths(&by_own_buffer, k, start, row) < without + TMAVOLICE_OUT_LEN) {
         fprintf(stderr, "%s: a buffer of %d octets was not seen\n", k->name, TMAVOLICE_OUT_LEN);
         right = 0;
     }
@@ -78,7 +78,7 @@ static void tell_frames(void) {
             deepest = larger(deepest, deepest_of_lengths(&ours, &kinds[i], start, rows[tag]));
         tell("frame", kinds[i].name, deepest, LIMIT);
         if (kinds[i].outcome == TMAVOLICE_LOOP)
-            insist_on_paint(&kinds[i], start, rows[0]);
+            insist_on_paint(&kinds[i], start, rows[0], deepest);
     }
 }
 
