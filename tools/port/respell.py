@@ -19,6 +19,9 @@ WORDS = {"use", "module", "record", "data", "pub", "abbrev", "unfoldable", "let"
 WALKS = ("Proof.antt", "Answers.antt", "Invariants.antt")
 # A definition that would take the name of a constructor beside it.
 BY_HAND = {"leftAlone": "is_left_alone"}
+# Fields of records that share their name with a definition that stands in the same record.
+SHARED_FIELDS = {"behind-places", "behind-sessions", "flows-open", "ports-open", "for-mp", "in-plan"}
+RECORD = re.compile(r"^(\s*)(?:pub |abbrev )*record \S.* where\s*$")
 CLAUSE = re.compile(r"^\s*(ghost|requires|ensures)\b")
 
 
@@ -61,6 +64,38 @@ def renames():
     return {a: b for a, b in to.items() if a != b}
 
 
+def fields(text):
+    """The places of the names of fields: in the records that are declared, and in the records that are written out."""
+    places, inside, at = set(), None, 0
+    for line in text.splitlines(keepends=True):
+        m = RECORD.match(line)
+        if m:
+            inside = len(m[1])
+        elif inside is not None and line.strip():
+            if len(line) - len(line.lstrip()) <= inside:
+                inside = None
+            else:
+                m = re.match(r"\s*(?:pub )?(?=[^\W\d][\w'-]* :)", line)
+                if m:
+                    places.add(at + m.end())
+        at += len(line)
+    for m in re.finditer(r"record\s*\{", text):
+        deep, i = 0, m.end() - 1
+        fresh = True
+        while i < len(text):
+            c = text[i]
+            deep += (c in "{([") - (c in "})]")
+            if not deep:
+                break
+            if fresh and deep == 1 and TOKEN.match(text, i):
+                places.add(i)
+                fresh = False
+            if deep == 1 and c in "{;":
+                fresh = True
+            i += 1
+    return places
+
+
 def respelled(text, path, to, foreign):
     """The text, whose tokens of `to` are respelled, but for the names that the file imports from elsewhere."""
     kit = set()
@@ -68,15 +103,19 @@ def respelled(text, path, to, foreign):
         if foreign(m[1]):
             kit |= {n.strip() for n in m[2].split(",")}
     rust = path.endswith(".rt")
+    places = set() if rust else fields(text)
 
-    def one(m, before):
+    def one(m, before, at):
         name = m[0]
         if name not in to or name in kit:
             return name
-        return snake(name) if before.endswith(".") and not re.search(r"\b[A-Z]\w*\.$", before) else to[name]
+        if at + m.start() in places or (before.endswith(".") and not re.search(r"\b[A-Z]\w*\.$", before)):
+            return snake(name) + "_is" if name in SHARED_FIELDS else snake(name)
+        return to[name]
 
-    out, ghost, deep = [], False, 0
+    out, ghost, deep, at = [], False, 0, 0
     for line in text.splitlines(keepends=True):
+        here, at = at, at + len(line)
         code, mark, comment = line, "", ""
         sign = "//" if rust else "--"
         m = re.search(rf"(?:^|\s){sign}(?=\s|$)", line)
@@ -85,7 +124,7 @@ def respelled(text, path, to, foreign):
         if rust and not (ghost or CLAUSE.match(line)):
             out.append(line)
             continue
-        out.append(TOKEN.sub(lambda t: one(t, code[: t.start()]), code) + re.sub(r"[a-z0-9]+[A-Z]\w*|`[^`]+`", lambda c: TOKEN.sub(lambda t: to.get(t[0], t[0]) if re.search("[A-Z]", t[0]) or c[0][0] == "`" else t[0], c[0]), comment))
+        out.append(TOKEN.sub(lambda t: one(t, code[: t.start()], here), code) + re.sub(r"[a-z0-9]+[A-Z]\w*|`[^`]+`", lambda c: TOKEN.sub(lambda t: to.get(t[0], t[0]) if re.search("[A-Z]", t[0]) or c[0][0] == "`" else t[0], c[0]), comment))
         if rust:
             deep += code.count("{") - code.count("}")
             ghost = deep > 0

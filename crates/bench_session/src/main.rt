@@ -1,4 +1,5 @@
 // The bench, played through the seven calls: BENCH-1 to BENCH-12, the other cases, and mistakes of earlier units.
+#![tactic(auto)]
 mod frames;
 mod report;
 mod script;

@@ -1,10 +1,11 @@
 // The seven calls as definitions: what each answers, and the number that a host gets for an answer.
+#![tactic(auto)]
 ghost use Rattle.std.specs.Prelude.{◌≡◌};
 ghost use Rattle.calls.specs.Answer.{number_of, packed};
 
 // What a call answers. Lengths are those of the octets written; a notice has its session's port and side; a plan fault has its
 // line and its reason.
-#[derive(Drop)]
+#[derive(Clone, Copy)]
 pub enum Answer {
     Refused(u8),
     Forwarded,

@@ -42,7 +42,7 @@ pub record Known (b : List ℕ) (a : Arrival) (frame : List ℕ) : Type 0 where
   pub quiet : notice_due (state_of b) ≡ false
   pub long : length b ≡ 4096
   pub flow_some : 1 ≤ a.flow
-  pub flow_fits_lem : a.flow ≤ 32
+  pub flow_fits : a.flow ≤ 32
   pub flow_same : (flow_numbered a.flow (state_of b).plan).number ≡ a.flow
   pub side_known : a.side ≤ 1
   pub tag_few : a.taglen ≤ 4

@@ -1,4 +1,5 @@
 // A request for an MP, answered on the lent image.
+#![tactic(auto)]
 use codec::Heading;
 use plan::Port;
 
@@ -12,7 +13,7 @@ pub use request::serve_request;
 // A frame that arrived in a flow, read once. It has the number of the port that it arrived at, the port whose machine it is for, and
 // the sources of a reply and of a looped group frame; its side, its flow's number, that flow's MP at its level, how many octets of
 // tag its set has, and what else is read of it.
-#[derive(Drop)]
+#[derive(Clone, Copy)]
 pub struct Arrival {
     pub arrival: u8,
     pub port: Port,
@@ -27,7 +28,7 @@ pub struct Arrival {
 
 // What a request asks of its machine: its column of the table, and its seconds. One that no machine is asked has the code of its
 // reply as `fault`, which is 0 of any other.
-#[derive(Drop)]
+#[derive(Clone, Copy)]
 pub struct Asked {
     pub fault: u8,
     pub event: usize,

@@ -183,7 +183,7 @@ module _ (b : List ℕ) (own : Port) (side : ℕ) (frame out : List ℕ) (k : Fa
               quiet = k.quiet;
               long = k.long;
               flow_some = omega (arith, some);
-              flow_fits_lem = number_fits;
+              flow_fits = number_fits;
               flow_same = ap (λ (f : Flow). f.number) of_number ∙ sym number_is;
               side_known = k.side_known;
               tag_few = tag_few frame own.kind there k.frame_some;

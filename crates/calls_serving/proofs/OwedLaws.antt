@@ -31,7 +31,7 @@ use Rattle.calls_serving.specs.Preconditions.{NoticeKnown}
 pub record NoticeFits (x : Session) : Type 0 where
   pub level_fits : x.level < 8
   pub count_fits : x.taglen ≤ 4
-  pub tag_fits_lem : x.tag < 2 ^ 32
+  pub tag_fits : x.tag < 2 ^ 32
   pub source_fits : x.source < 2 ^ 48
 
 level_fits : (level side : ℕ) (f : Flow) → length f.mps ≡ 8 → faces (mp_at level f) side ≡ true → level < 8
@@ -63,7 +63,7 @@ session_fits_lem s x v h =
     record {
       level_fits = level_fits x.level x.side f (good_flow_lem s.plan f good).fits.mps_fit t4.1;
       count_fits = tag.0;
-      tag_fits_lem = tag.1.0;
+      tag_fits = tag.1.0;
       source_fits = (good_fits s x p.plan_kept h).source_fits;
     }
 

@@ -1,4 +1,5 @@
 // The message layer, read: a frame once, its sets, the PDU of a request.
+#![tactic(auto)]
 mod frame;
 mod pdu;
 mod requests;
@@ -13,14 +14,14 @@ pub use words::{
 };
 
 // A frame set of a port. Its kind is 1 untagged, 2 C-tagged, 3 S-tagged; its VID is 0 where it is untagged.
-#[derive(Drop)]
+#[derive(Clone, Copy)]
 pub struct FrameSet {
     pub kind: u8,
     pub vid: u16,
 }
 
 // Where a frame belongs: in no set, or in a set that has so many octets of tag before the type.
-#[derive(Drop)]
+#[derive(Clone, Copy)]
 pub enum Place {
     NoSet,
     InSet(FrameSet, usize),
@@ -28,7 +29,7 @@ pub enum Place {
 
 // What is read of a frame once: its addresses, and whether it is service OAM; of service OAM alone whether it is a request, and the
 // level and the message type of its PDU.
-#[derive(Drop)]
+#[derive(Clone, Copy)]
 pub struct Heading {
     pub destination: u64,
     pub source: u64,
@@ -39,7 +40,7 @@ pub struct Heading {
 }
 
 // Whom the destination of a request means: nobody here, the port, or every MP of the request's level.
-#[derive(Drop)]
+#[derive(Clone, Copy)]
 pub enum Addressed {
     Elsewhere,
     Unicast,
@@ -47,7 +48,7 @@ pub enum Addressed {
 }
 
 // What a request says. An Activate has its seconds.
-#[derive(Drop)]
+#[derive(Clone, Copy)]
 pub enum Request {
     Malformed,
     Reserved,
@@ -57,14 +58,14 @@ pub enum Request {
 }
 
 // What is read of a request: what it says, and how many octets of unknown TLVs its reply copies.
-#[derive(Drop)]
+#[derive(Clone, Copy)]
 pub struct Read {
     pub request: Request,
     pub copies: usize,
 }
 
 // What a reply says of its machine after the call. Side and seconds are 0 where it is inactive.
-#[derive(Drop)]
+#[derive(Clone, Copy)]
 pub struct Status {
     pub active: bool,
     pub side: u8,

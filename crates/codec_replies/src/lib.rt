@@ -1,4 +1,5 @@
 // The message layer, written: replies and loops.
+#![tactic(auto)]
 use codec::Status;
 
 mod answer;
@@ -8,7 +9,7 @@ pub use answer::put_reply_frame;
 pub use reply::{put_bare, put_head, put_looped};
 
 // What a reply says: its level, message type, code, port address and status.
-#[derive(Drop)]
+#[derive(Clone, Copy)]
 pub struct ReplyFields {
     pub level: u8,
     pub kind: u8,

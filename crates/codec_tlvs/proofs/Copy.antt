@@ -1,8 +1,8 @@
--- Copying the unknown TLVs: the loop's invariant, with its start, its turn and its end, and its state.
+-- Copying the unknown TLVs: the loop's invariant, with its start, its turn and its end.
 use mathlib.Core.Path.{◌≡◌, refl, ap, sym, ◌∙◌}
 use mathlib.Core.Bool.{Bool, true, false, cond}
 use mathlib.Core.List.{List, [], ◌∷◌, ◌++◌}
-use Prim.Native.Nat.{ℕ, ◌+◌, ◌<◌, ◌≤◌, ◌^◌}
+use Prim.Native.Nat.{ℕ, ◌+◌, ◌≤◌}
 use native.Mathlib.Omega.{arith}
 use lib.ListN.{length, take, drop, get_or, length-append}
 use Rattle.octets.specs.Octets.{octets, over, splice}
@@ -75,35 +75,3 @@ none_at_end l at e = rw (parse_at l at, e)
 pub none_at_bad : (l : List ℕ) (at : ℕ) → step_at l at ≡ Bad → rest l at ≡ []
 unfolding unknowns tlv_list cut
 none_at_bad l at e = rw (parse_at l at, e)
-
--- ---- the state: the reader's place, how many octets were copied, and what `out` has
-pub record Met (l : List ℕ) (from : ℕ) (out₀ : List ℕ) : Type 0 where
-  pub place : ℕ
-  pub done : ℕ
-  pub out : List ℕ
-  pub fits : place < 2 ^ 64
-  pub copying : Copying l (rest l from) out₀ place done out
-
-abbrev pub begun : (l : List ℕ) (from : ℕ) (out₀ : List ℕ) → from < 2 ^ 64 → length (rest l from) ≤ length out₀ → Met l from out₀
-begun l from out₀ fits h = record { place = from; done = 0; out = out₀; fits = fits; copying = start l out₀ from h }
-
-module _ {l : List ℕ} {from : ℕ} {out₀ : List ℕ} (t : Met l from out₀) where
-  pub done_fits : length out₀ < 2 ^ 64 → t.done < 2 ^ 64
-  done_fits h = omega (arith, t.copying.room, t.copying.count)
-
-  -- a turn that met a TLV, and was handed its value
-  module _ {kind s len next : ℕ} (e : Found kind s len next ≡ step_at l t.place) {v : List ℕ} (ev : v ≡ take len (drop s l)) where
-    pub has_room : t.done + length (kept kind v) ≤ length t.out
-    has_room = rw ev (room t.copying {m = len} (sym e) refl)
-
-    abbrev pub onward : {n : ℕ} {out : List ℕ} → n ≡ t.done + length (kept kind v) → out ≡ splice t.done (kept kind v) t.out
-        → next < 2 ^ 64 → Met l from out₀
-    onward {n} {out} en eo fits = record {
-      place = next;
-      done = n;
-      out = out;
-      fits = fits;
-      copying =
-          turn t.copying {m = len} (sym e) refl (en ∙ ap (λ (w : List ℕ). t.done + length (kept kind w)) ev)
-          (eo ∙ ap (λ (w : List ℕ). splice t.done (kept kind w) t.out) ev);
-    }

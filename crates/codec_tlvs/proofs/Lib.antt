@@ -7,10 +7,3 @@ mod Copy
 pub mod After
 pub mod Written
 pub mod AddedLaws
-mod Locals
-mod CallRules
-mod Held
-mod Promised
-mod Questions
-mod ReaderRules
-mod Again

@@ -1,24 +1,19 @@
--- The loop that sums a list up: a turn, its ends, and its state.
-use mathlib.Core.Path.{◌≡◌, refl, ap, sym, ◌∙◌}
+-- The loop that sums a list up: a turn, and its ends.
+use mathlib.Core.Path.{◌≡◌, refl}
 use mathlib.Core.Bool.{Bool, true, false, cond}
-use mathlib.Core.List.{List, [], ◌∷◌}
-use Prim.Native.Nat.{ℕ, ◌+◌, ◌<◌, ◌≤◌, ◌^◌}
+use mathlib.Core.List.{List}
+use Prim.Native.Nat.{ℕ, ◌+◌, ◌≤◌}
 use native.Mathlib.Omega.{arith}
-use lib.Dec.{eqb, lit<}
+use lib.Dec.{eqb}
 use lib.ListN.{length, take, drop, length-take}
-use mir.Val.{Val}
-use denote.Laws.{Is}
-use denote.Struct.Laws as LL
 use Rattle.codec_tlvs.specs.Tlv.{Tlv, Parsed, ended, cut, followed, parse, is_unknown}
-use Rattle.codec_tlvs.specs.Walk.{step_at, timer_of, tlv_of, bad_summary, summary_of, with_unknown, by_timer, count}
+use Rattle.codec_tlvs.specs.Walk.{step_at, timer_of, tlv_of, bad_summary, with_unknown, by_timer, count}
 use Rattle.codec_tlvs.specs.declared.Step.TheVariants.{Tlv as Found, End, Bad}
 use Rattle.codec_tlvs.specs.declared.Timer.{Timer}
 use Rattle.codec_tlvs.specs.declared.Timer.TheVariants.{Broken, Seconds}
 use Rattle.codec_tlvs.specs.declared.Summary.{Summary}
-use Rattle.codec_tlvs.proofs.Walk.{parse_at, stood}
-use Rattle.codec_tlvs.proofs.Sum.{sum_up, empty_summary, sum_all}
-use Rattle.codec_tlvs.specs.contracts.Summary as Y
-use Rattle.codec_tlvs.proofs.Summary.TheLaws as Y'
+use Rattle.codec_tlvs.proofs.Walk.{parse_at}
+use Rattle.codec_tlvs.proofs.Sum.{sum_up}
 
 sum_followed : (s : Summary) (t : Tlv) (p : Parsed) → sum_up s (followed t p) ≡ sum_up (count s t.kind t.value) p
 unfolding followed
@@ -62,44 +57,3 @@ pub grown : (s : Summary) {r : Summary} (kind : ℕ) {m n : ℕ} (start : ℕ) (
     → r ≡ count s kind (take m (drop start l)) → r.unknown ≤ s.unknown + 3 + n
 grown s kind {m} start l em er =
     rw er (omega (arith, count_unknown s kind (take m (drop start l)), length-take m (drop start l)))
-
--- ---- the state: the reader's place, and the summary so far with its machine value
-pub record Met (l : List ℕ) (n : ℕ) : Type 0 where
-  pub place : ℕ
-  pub sum : Summary
-  pub low : Val
-  pub fits : place < 2 ^ 64
-  pub is : Is Y.the_row sum (low ∷ [])
-  pub few : sum.unknown ≤ place
-  pub same : sum_up sum (parse (drop place l)) ≡ summary_of (parse (drop n l))
-
-abbrev pub begun : (l : List ℕ) (n : ℕ) → n < 2 ^ 64 → Met l n
-begun l n fits = record {
-  place = n;
-  sum = empty_summary;
-  low = Y'.lowered empty_summary;
-  fits = fits;
-  is = LL.owes Y.the_type Y'.the_laws empty_summary (refl, (refl, ((refl, lit< tt), ((refl, lit< tt), tt))));
-  few = omega arith;
-  same = sum_all (parse (drop n l));
-}
-
--- a turn that met a TLV, and was handed its value
-module _ {l : List ℕ} {n : ℕ} (t : Met l n) {kind start len next : ℕ} (e : Found kind start len next ≡ step_at l t.place)
-    {v : List ℕ} (ev : v ≡ take len (drop start l)) where
-  pub counts : next < 2 ^ 64 → t.sum.unknown + 3 + length v < 2 ^ 64
-  counts fits = rw ev (omega (arith, stood l t.place (sym e), t.few, length-take len (drop start l)))
-
-  abbrev pub onward : {sum : Summary} {low : Val} → sum ≡ count t.sum kind v → Is Y.the_row sum (low ∷ []) → next < 2 ^ 64
-      → Met l n
-  onward {sum} {low} es is fits =
-      let ec : sum ≡ count t.sum kind (take len (drop start l)) = es ∙ ap (count t.sum kind) ev in
-      record {
-        place = next;
-        sum = sum;
-        low = low;
-        fits = fits;
-        is = is;
-        few = omega (arith, stood l t.place (sym e), t.few, grown t.sum kind {m = len} start l refl ec);
-        same = turn l t.place t.sum (sym e) refl ec ∙ t.same;
-      }

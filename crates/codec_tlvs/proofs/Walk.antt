@@ -2,8 +2,6 @@
 use mathlib.Core.Path.{◌≡◌, refl, ap, sym, ◌∙◌}
 use mathlib.Core.Bool.{Bool, true, false, cond}
 use mathlib.Core.List.{List, [], ◌∷◌}
-use mathlib.Core.WellFounded.InvImage
-use mathlib.Core.WellFounded.{WellFounded}
 use Prim.Native.Nat.{ℕ, zero, suc, ◌+◌, ◌-◌, ◌≤◌, ◌<◌}
 use native.Mathlib.Numerals.{add-one}
 use native.Mathlib.Decide.{dec_le, dec_lt}
@@ -11,7 +9,6 @@ use native.Mathlib.Omega.{arith}
 use lib.Dec.{leb, ltb, eqb}
 use lib.ListN.{length, take, drop, get_or, length-drop, drop_of_length-le}
 use lib.Seq.{drop-cons, drop-drop}
-use lib.WfN.{lt-wf_rel}
 use borrow.Author.Tests.{lt-ltb, le-ltb, le-leb, lt-leb, leb-true}
 use Rattle.octets.specs.Octets.{number}
 use Rattle.codec_tlvs.specs.Tlv.{Parsed, ended, cut, followed, walk, parse}
@@ -92,13 +89,6 @@ stood l at {kind} {start} {len} {next} e =
     go false b d t h = let z : ◌≡◌ {A = ℕ} 0 1 = cc in absurd (omega arith)
     go true true d t h = let z : ◌≡◌ {A = ℕ} 0 1 = cc in absurd (omega arith)
     go true false false t h = let z : ◌≡◌ {A = ℕ} 0 1 = cc in absurd (omega arith)
-
--- a walk's state comes nearer to the end of the list in each turn that meets a TLV
-abbrev pub Nearer : {X : Type 0} → List ℕ → (X → ℕ) → X → X → Type 0
-Nearer l place a b = length l - place a < length l - place b
-
-pub nearer_wf : {X : Type 0} (l : List ℕ) (place : X → ℕ) → WellFounded (Nearer l place)
-nearer_wf {X} l place = InvImage.wf (λ (t : X). length l - place t) lt-wf_rel.wf
 
 module _ (l : List ℕ) (at : ℕ) {kind start len next : ℕ} (e : Found kind start len next ≡ step_at l at) where
   met : Stood l at start len next

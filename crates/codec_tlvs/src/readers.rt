@@ -7,7 +7,7 @@ ghost use Rattle.codec_tlvs.specs.Walk.{step_at};
 use crate::Step;
 use crate::steps::{tlv_at, value_at};
 
-#[derive(Drop)]
+#[derive(Clone, Copy)]
 pub struct TlvReader<'a> {
     pub pdu: &'a [u8],
     pub at: usize,

@@ -71,7 +71,7 @@ module _ (keys : ℕ) (w : World) (port side : ℕ) (set : FrameSet) (taglen : �
   request_is q may =
       set_is keys w port side f out set taglen t q.placed q.planned
       ∙ rw (
-        q.for_mp,
+        q.for_mp_is,
         by_mp keys w set a q.whom q.some_mp,
         own_is,
         may,

@@ -30,7 +30,7 @@ set20 = set_of c_tagged 20
 module _ (w : World) (p : w.plan ≡ bench_plan) where
   b1_asks : Asks w 1 cen set20 4 b1
   unfolding computed
-  b1_asks = record { placed = rw p; in_plan_lem = rw p; for_mp_lem = rw p; long = omega arith; type_known = refl; well_formed = rw p }
+  b1_asks = record { placed = rw p; in_plan_is = rw p; for_mp_is = rw p; long = omega arith; type_known = refl; well_formed = rw p }
 
   -- so the run of B1 alone is rewritten to that of B2
   b2_run : (keys : ℕ) → Rewritten keys w (frame 1 cen b1 room ∷ []) (frame 1 cen b2 room ∷ []) (became ∷ [])

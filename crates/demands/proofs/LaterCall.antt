@@ -129,7 +129,7 @@ module _ (keys : ℕ) {w : World} {port side taglen : ℕ} {set : FrameSet} {f g
   agree_frame : Agree (frame_served keys w port side f) (frame_served keys w port side g)
   unfolding frame_served in_sets in_flow arrived arrived_at
   agree_frame =
-      rw (asks.placed, t.placed, asks.in_plan, t.for_same) (agree_for (for_mp a) asks.for_mp agree_request)
+      rw (asks.placed, t.placed, asks.in_plan_is, t.for_same) (agree_for (for_mp a) asks.for_mp_is agree_request)
 
   pub agree_call : Agree (call keys w c) (call keys w d)
   unfolding call refusal served

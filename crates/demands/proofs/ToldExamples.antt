@@ -41,12 +41,12 @@ asks = to_port (hex "80 39 00 08 03 00 02 00 00 00 00 01 00")
 idle_carries : Carries (world_of idle) 1 cen vlan 4 activates (Activate 60)
 unfolding computed
 idle_carries =
-    record { placed = refl; planned = refl; whom = Unicast; for_mp_lem = refl; some_mp = refl; long = omega arith; request = refl }
+    record { placed = refl; planned = refl; whom = Unicast; for_mp_is = refl; some_mp = refl; long = omega arith; request = refl }
 
 unit_carries : Carries (world_of unit) 1 cen vlan 4 asks StateRequest
 unfolding computed
 unit_carries =
-    record { placed = refl; planned = refl; whom = Unicast; for_mp_lem = refl; some_mp = refl; long = omega arith; request = refl }
+    record { placed = refl; planned = refl; whom = Unicast; for_mp_is = refl; some_mp = refl; long = omega arith; request = refl }
 
 module _ (keys : ℕ) (big : 33 * 2 ^ 48 ≤ keys) where
   idle_due : notice_due keys (world_of idle) ≡ false

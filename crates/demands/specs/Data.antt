@@ -48,7 +48,7 @@ pub record Carries (w : World) (port side : ℕ) (set : FrameSet) (taglen : ℕ)
   pub placed : sets_at w port f ≡ only set taglen
   pub planned : in_set w port (only set taglen) ≡ true
   pub whom : Addressed
-  pub for_mp_lem : for_mp (arrived w port side set taglen f) ≡ whom
+  pub for_mp_is : for_mp (arrived w port side set taglen f) ≡ whom
   pub some_mp : is_for whom ≡ true
   pub long : 12 ≤ length (pdu_of taglen f)
   pub request : request_of whom (destination f) (pdu_of taglen f) ≡ r

@@ -23,8 +23,8 @@ use Rattle.demands.specs.Later.{Later}
 -- LATER-2: a well-formed request of type 1, 2 or 3 for an MP, with 12 or more PDU octets.
 pub record Asks (w : World) (port side : ℕ) (set : FrameSet) (taglen : ℕ) (f : List ℕ) : Type 0 where
   pub placed : sets_of (port_numbered port w.plan).kind f ≡ only set taglen
-  pub in_plan_lem : in_plan (arrived w port side set taglen f).flow.number ≡ true
-  pub for_mp_lem : is_for (for_mp (arrived w port side set taglen f)) ≡ true
+  pub in_plan_is : in_plan (arrived w port side set taglen f).flow.number ≡ true
+  pub for_mp_is : is_for (for_mp (arrived w port side set taglen f)) ≡ true
   pub long : 12 ≤ length (pdu (arrived w port side set taglen f))
   pub type_known : within 1 3 (type_of (pdu (arrived w port side set taglen f))) ≡ true
   pub well_formed : malformed (for_mp (arrived w port side set taglen f)) (destination f) (pdu (arrived w port side set taglen f)) ≡ false

@@ -11,14 +11,14 @@ use plan_lines::{Amount, amount_of};
 // The first number that is too high.
 const TOO_HIGH: u64 = 4294967296;
 
-#[derive(Drop)]
+#[derive(Clone, Copy)]
 pub enum Count {
     NoCount,
     Counted(u32),
 }
 
 // Octets that were read, by their count.
-#[derive(Drop)]
+#[derive(Clone, Copy)]
 pub enum Octets {
     NoOctets,
     Many(usize),

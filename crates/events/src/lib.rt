@@ -1,4 +1,5 @@
 // A unit's log on a desk: a line of it read into an event, and the line that is printed for what a call answered.
+#![tactic(auto)]
 mod answers;
 mod digits;
 mod fields;
@@ -14,7 +15,7 @@ pub const LINE_ROOM: usize = 4100;
 pub const FRAME_ROOM: usize = 2050;
 
 // A line of a log. A frame's octets stand in the reader's buffer, and here is how many.
-#[derive(Drop)]
+#[derive(Clone, Copy)]
 pub enum Logged {
     Unreadable,
     Frame(u32, u32, usize),

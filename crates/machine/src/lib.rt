@@ -1,4 +1,5 @@
 // The machine layer: the table of twenty-four entries, one session's step, time. By value only.
+#![tactic(auto)]
 mod actions;
 mod codes;
 mod events;
@@ -23,7 +24,7 @@ pub use traffic::{data_event, fate_of};
 
 // A session of a flow and a source address. The tag is the number of its octets, of which there are `taglen`. A session is open
 // while `notice` is 0; closed, it is owed a notice with that code and has no time left.
-#[derive(Drop)]
+#[derive(Clone, Copy)]
 pub struct Session {
     pub flow: u16,
     pub source: u64,
@@ -36,14 +37,14 @@ pub struct Session {
 }
 
 // The machine of one port, frame set and source address on an allowed flow.
-#[derive(Drop)]
+#[derive(Clone, Copy)]
 pub enum Machine {
     Inactive,
     Active(Session),
 }
 
 // What becomes of a session by a request.
-#[derive(Drop)]
+#[derive(Clone, Copy)]
 pub enum Change {
     Same,
     Opened(Session),
@@ -52,14 +53,14 @@ pub enum Change {
 }
 
 // The answer to a request: its response code, and what becomes of the session.
-#[derive(Drop)]
+#[derive(Clone, Copy)]
 pub struct Decided {
     pub code: u8,
     pub change: Change,
 }
 
 // What becomes of a data frame.
-#[derive(Drop)]
+#[derive(Clone, Copy)]
 pub enum Fate {
     Forward,
     Drop,
@@ -67,7 +68,7 @@ pub enum Fate {
 }
 
 // What is done to every session at once: so many milliseconds pass, or an action of management on a flow is carried out.
-#[derive(Drop)]
+#[derive(Clone, Copy)]
 pub enum Sweep {
     Ticked(u32),
     Managed(u8, u16),

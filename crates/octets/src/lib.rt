@@ -1,4 +1,6 @@
 // Numbers in network order, and runs of octets. Knows no protocol.
+#![tactic(auto)]
+
 mod low;
 mod moves;
 mod number;

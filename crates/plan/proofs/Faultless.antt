@@ -25,7 +25,7 @@ pub record FaultlessPort (plan : Plan) (number address : ℕ) : Type 0 where
 
 pub record FaultlessFlow (plan : Plan) (number port kind vid : ℕ) : Type 0 where
   pub number_fits : within 1 32 number ≡ true
-  pub port_fits_lem : within 1 8 port ≡ true
+  pub port_fits : within 1 8 port ≡ true
   pub vid_fits : good_vid kind vid ≡ true
   pub port_there : in_plan (port_numbered port plan).number ≡ true
   pub kind_fits : good_kind kind (port_numbered port plan).kind ≡ true
@@ -33,7 +33,7 @@ pub record FaultlessFlow (plan : Plan) (number port kind vid : ℕ) : Type 0 whe
   pub set_new : in_plan (flow_of_set port (set_of kind vid) plan).number ≡ false
 
 pub record FaultlessMp (plan : Plan) (flow level : ℕ) : Type 0 where
-  pub flow_fits_lem : within 1 32 flow ≡ true
+  pub flow_fits : within 1 32 flow ≡ true
   pub level_fits : within 0 7 level ≡ true
   pub flow_there : in_plan (flow_numbered flow plan).number ≡ true
   pub level_new : leb 1 (mp_at level (flow_numbered flow plan)) ≡ false
@@ -82,7 +82,7 @@ module _ (plan : Plan) where
       let u4 : _ = neither f g t4.0 in
       record {
         number_fits = not-false a u1.0;
-        port_fits_lem = not-false b u1.1;
+        port_fits = not-false b u1.1;
         vid_fits = not-false c u2.1;
         port_there = not-false d t2.0;
         kind_fits = not-false e t3.0;
@@ -110,7 +110,7 @@ module _ (plan : Plan) where
       let t4 : _ = passed e 6 0 t3.1 in
       let u1 : _ = neither (not a) (not b) t1.0 in
       record {
-        flow_fits_lem = not-false a u1.0;
+        flow_fits = not-false a u1.0;
         level_fits = not-false b u1.1;
         flow_there = not-false c t2.0;
         level_new = t3.0;

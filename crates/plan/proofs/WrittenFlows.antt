@@ -77,7 +77,7 @@ module _ (plan : Plan) (h : so_far plan ≡ true) where
         flow_clears (bared before) f.number f.port f.kind f.vid
         record {
           number_fits = good.number_fits;
-          port_fits_lem = port_number plan f.port k.ports_good good.port_there;
+          port_fits = port_number plan f.port k.ports_good good.port_there;
           vid_fits = good.vid_fits;
           port_there = good.port_there;
           kind_fits = good.kind_fits;

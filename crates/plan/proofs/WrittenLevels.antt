@@ -94,7 +94,7 @@ module _ (plan : Plan) (h : so_far plan ≡ true) where
       mp_fits =
           mp_clears (stage (a ++ (0 ∷ clear))) f.number (length a)
           record {
-            flow_fits_lem = good.number_fits;
+            flow_fits = good.number_fits;
             level_fits = is_within 0 7 (length a) (omega arith) (omega (arith, level_fits));
             flow_there =
                 rw (flow_there (a ++ (0 ∷ clear))) (le-leb 1 f.number (within_low 1 32 f.number good.number_fits));

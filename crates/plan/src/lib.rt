@@ -1,4 +1,5 @@
 // The plan: its records, and rules of it that several rooms test.
+#![tactic(auto)]
 mod rules;
 mod words;
 
@@ -9,7 +10,7 @@ pub use words::{
 };
 
 // A port: its kind is 1 UNI, 2 ENNI.
-#[derive(Drop)]
+#[derive(Clone, Copy)]
 pub struct Port {
     pub number: u8,
     pub kind: u8,
@@ -18,7 +19,7 @@ pub struct Port {
 
 // A flow: a frame set of a port (kind 1 untagged, 2 C-tagged, 3 S-tagged, and the VID), with its MP at each level from 0 to 7:
 // 0 none, 1 up, 2 down, 3 MIP.
-#[derive(Drop)]
+#[derive(Clone, Copy)]
 pub struct Flow {
     pub number: u8,
     pub port: u8,

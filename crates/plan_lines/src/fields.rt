@@ -21,19 +21,19 @@ const HIGHEST_HELD: u64 = 9999;
 const ADDRESS_DIGITS: usize = 12;
 
 // A number, or the most that is asked for where it is above.
-#[derive(Drop)]
+#[derive(Clone, Copy)]
 pub enum Amount {
     NoAmount,
     Of(u64),
 }
 
-#[derive(Drop)]
+#[derive(Clone, Copy)]
 pub enum Digits {
     NoNumber,
     Number(u32),
 }
 
-#[derive(Drop)]
+#[derive(Clone, Copy)]
 pub enum Hex {
     NoAddress,
     Address(u64),

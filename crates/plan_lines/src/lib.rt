@@ -1,4 +1,5 @@
 // One line of a plan's text, read.
+#![tactic(auto)]
 mod fields;
 mod lines;
 
@@ -11,7 +12,7 @@ pub const TAB: u8 = 9;
 pub const LF: u8 = 10;
 
 // One line of a plan's text. A number above 9,999 is read as 9,999, which is out of range wherever it stands.
-#[derive(Drop)]
+#[derive(Clone, Copy)]
 pub enum Said {
     Unreadable,
     OfPort(u32, u8, u64),

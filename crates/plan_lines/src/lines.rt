@@ -9,14 +9,14 @@ use crate::{Said, TAB};
 use octets::same_octets;
 
 // The places of the two tabs between three fields, or any other count of fields.
-#[derive(Drop)]
+#[derive(Clone, Copy)]
 enum Cuts {
     Three(usize, usize),
     Other,
 }
 
 // What a line speaks of, by its word.
-#[derive(Drop)]
+#[derive(Clone, Copy)]
 enum Word {
     Port,
     Flow,

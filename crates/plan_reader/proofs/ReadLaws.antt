@@ -34,12 +34,12 @@ line_read n plan line (next ∷ parts) h = refl
 pub record ReadTo (text : List ℕ) (records : Records) (n at : ℕ) : Type 0 where
   pub value : records ≡ by_value (plan_of records)
   pub keeps : so_far (plan_of records) ≡ true
-  pub goes_on_lem : read_lines n (plan_of records) (parted lf (drop at text)) ≡ read_lines 1 empty_plan (parted lf text)
+  pub goes_on : read_lines n (plan_of records) (parted lf (drop at text)) ≡ read_lines 1 empty_plan (parted lf text)
 
 pub none_read : (text : List ℕ) (records : Records) → records ≡ by_value empty_plan → ReadTo text records 1 0
 none_read text records e =
     let p : plan_of records ≡ empty_plan = ap plan_of e ∙ value_back empty_plan none_so_far in
-    record { value = e ∙ ap by_value (sym p); keeps = ap so_far p ∙ none_so_far; goes_on_lem = rw p }
+    record { value = e ∙ ap by_value (sym p); keeps = ap so_far p ∙ none_so_far; goes_on = rw p }
 
 pub all_read : {text : List ℕ} {records : Records} {n at : ℕ} → ReadTo text records n at → length text ≤ at
     → finished (plan_of records) ≡ read_lines 1 empty_plan (parted lf text)
@@ -106,6 +106,6 @@ module _ (text : List ℕ) (at e n : ℕ) (records : Records) (w : ReadTo text r
             record {
               value = en ∙ ap by_value (sym held);
               keeps = ap so_far held ∙ grown_keeps;
-              goes_on_lem =
+              goes_on =
                   ap (λ p. read_lines (n + 1) p (parted lf (drop (e + 1) text))) (held ∙ grown) ∙ (rw none at turn);
             }

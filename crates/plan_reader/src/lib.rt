@@ -1,4 +1,5 @@
 // A plan's text read into a plan by value.
+#![tactic(auto)]
 use plan::Records;
 
 mod additions;

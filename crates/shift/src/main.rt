@@ -1,4 +1,5 @@
 // A recorded shift, run on a desk. Standard input: the plan file's name, then a line for each event; standard output: a line for each.
+#![tactic(auto)]
 mod files;
 mod input;
 mod run;

@@ -126,10 +126,10 @@ good_session_lem s x k h =
       flow_within = v;
       fits =
           record {
-            flow_fits_lem = omega (arith, within_high 1 32 x.flow v);
+            flow_fits = omega (arith, within_high 1 32 x.flow v);
             source_fits = ltb-true x.source (2 ^ 48) t1.1;
             left_fits = omega (arith, left_fits (is_allowed x.flow s) x t5.1);
-            tag_fits_lem = omega (arith, (tag_fits_lem (set_of f.kind f.vid) x.taglen x.tag t3.1).1.0);
+            tag_fits = omega (arith, (tag_fits_lem (set_of f.kind f.vid) x.taglen x.tag t3.1).1.0);
           };
       key_some = omega (arith, within_low 1 32 x.flow v);
     }

@@ -85,7 +85,7 @@ module _ (s : State) (h : Sized s) where
   behind_counters = next_part 1280 192 (port_counters s) (flows_open s ++ sessions_part s) behind_flows (lengths s).counters
 
   pub image_sessions : drop 1536 (image s) ≡ sessions_part s
-  image_sessions = next_part 1472 64 (flows_open s) (sessions_part s) behind_counters (lengths s).flows_open
+  image_sessions = next_part 1472 64 (flows_open s) (sessions_part s) behind_counters (lengths s).flows_open_is
 
   pub head_size : length (head s) ≡ 1536
   unfolding head
@@ -96,4 +96,4 @@ module _ (s : State) (h : Sized s) where
 
   pub image_size : length (image s) ≡ 4096
   unfolding image
-  image_size = simp length-append (omega (arith, head_size, (lengths s).behind_sessions))
+  image_size = simp length-append (omega (arith, head_size, (lengths s).behind_sessions_is))

@@ -29,10 +29,10 @@ pub record FlowFits (f : Flow) : Type 0 where
   pub mps_fit : length f.mps ≡ 8
 
 pub record SessionFits (x : Session) : Type 0 where
-  pub flow_fits_lem : x.flow < 2 ^ 16
+  pub flow_fits : x.flow < 2 ^ 16
   pub source_fits : x.source < 2 ^ 48
   pub left_fits : x.left < 2 ^ 32
-  pub tag_fits_lem : x.tag < 2 ^ 64
+  pub tag_fits : x.tag < 2 ^ 64
 
 pub port_length : (p : Port) → length (port_row p) ≡ 16
 unfolding port_row low_octets zeros

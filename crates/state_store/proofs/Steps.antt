@@ -93,10 +93,10 @@ module _ {x y : Session} (k : Keeps x y) where
   pub kept_fits : SessionFits x → SessionFits y
   kept_fits f =
       record {
-        flow_fits_lem = rw k.flow_kept f.flow_fits;
+        flow_fits = rw k.flow_kept f.flow_fits;
         source_fits = rw k.source_kept f.source_fits;
         left_fits = omega (arith, k.left_less, f.left_fits);
-        tag_fits_lem = rw k.tag_kept f.tag_fits;
+        tag_fits = rw k.tag_kept f.tag_fits;
       }
 
 -- the row that x was read from has the key of what became of it

@@ -1,4 +1,5 @@
 // The state's image rewritten in place, on the lent octets.
+#![tactic(auto)]
 mod head;
 mod row;
 mod session;

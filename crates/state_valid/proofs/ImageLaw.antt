@@ -75,7 +75,7 @@ module _ (l : List ℕ) (o : Octets l) (long : length l ≡ 4096) where
   zero_end : same (behind_sessions s) (drop 2048 l) ≡ all_zero (take 2048 (drop 2048 l))
   zero_end =
       let all : take 2048 (drop 2048 l) ≡ drop 2048 l = take_all 2048 (drop 2048 l) (rw length-drop (omega arith)) in
-      ap (same (behind_sessions s)) (sym all) ∙ zero_part (behind_sessions s) 2048 2048 none.behind_sessions (omega arith)
+      ap (same (behind_sessions s)) (sym all) ∙ zero_part (behind_sessions s) 2048 2048 none.behind_sessions_is (omega arith)
 
   clock_same : same (low_octets 4 s.clock) (take 4 l) ≡ true
   unfolding state_of
@@ -115,10 +115,10 @@ module _ (l : List ℕ) (o : Octets l) (long : length l ≡ 4096) where
         clock_same,
         zero_part (unit_flag s) 4 4 none.flag (omega arith),
         zero_part (shared_address s) 8 8 none.shared (omega arith),
-        zero_part (ports_open s) 16 16 none.ports_open (omega arith),
+        zero_part (ports_open s) 16 16 none.ports_open_is (omega arith),
         zero_part (behind_places s) 96 32 none.behind_places (omega arith),
         zero_part (port_counters s) 1280 192 none.counters (omega arith),
-        zero_part (flows_open s) 1472 64 none.flows_open (omega arith),
+        zero_part (flows_open s) 1472 64 none.flows_open_is (omega arith),
         zero_end,
         lt-ltb s.clock (2 ^ 32) clock_fits,
         eq-eqb (length s.allowed) 32 sizes.allowed_size,

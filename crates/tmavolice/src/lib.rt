@@ -1,4 +1,5 @@
 // The product: the seven calls as C entries over the lent image.
+#![tactic(auto)]
 mod entries;
 mod make;
 mod refusals;

@@ -38,22 +38,22 @@ serve-request-requires c κs =
     let m : _ = c.before.before in
     let f : _ = m.before in
     let p : _ = f.before.before.before.before.requires in
-    (p.0, (p.1, for_oam p.0 (λ e. not-elsewhere f.for_mp.result m.match.keys2 (f.for_mp.ensures _ p.0 ∙ e))))
+    (p.0, (p.1, for_oam p.0 (λ e. not-elsewhere f.for_mp_is.result m.match.keys2 (f.for_mp_is.ensures _ p.0 ∙ e))))
 
 returns : tie.Need-returns
 unfolding by_whom
 returns c =
     let m : _ = c.before.before.before.before.before in
     let f : _ = m.before.before in
-    by_whom_lem _ _ _ Elsewhere (sym m.enum_told.given.1 ∙ f.for_mp.ensures _ f.before.before.before.before.requires.0) c.before.before.serve-data.ensures
+    by_whom_lem _ _ _ Elsewhere (sym m.enum_told.given.1 ∙ f.for_mp_is.ensures _ f.before.before.before.before.requires.0) c.before.before.serve-data.ensures
 
 returns-2 : tie.Need-returns-2
 returns-2 c =
     let q : _ = c.before.before.before.before in
     let m : _ = q.before.before.before in
     let f : _ = m.before in
-    by_whom_lem _ _ _ f.for_mp.result (f.for_mp.ensures _ f.before.before.before.before.requires.0)
-    (rw (asked _ _ f.for_mp.result m.match.keys2) q.serve-request.ensures)
+    by_whom_lem _ _ _ f.for_mp_is.result (f.for_mp_is.ensures _ f.before.before.before.before.requires.0)
+    (rw (asked _ _ f.for_mp_is.result m.match.keys2) q.serve-request.ensures)
 
 pub serve-arrival-spec : {M : Type 1} → statement M
 serve-arrival-spec =
