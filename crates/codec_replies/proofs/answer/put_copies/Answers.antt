@@ -1,5 +1,4 @@
 use Rattle.codec_replies.proofs.Parts.{none_copied, some_copied}
-use borrow.Author.Rules.{rules}
 use Rattle.codec_replies.proofs.answer.put_copies.Goals as goal
 
 pub returns-then-count-eq0 : goal.returns-then-count-eq0
@@ -8,7 +7,7 @@ returns-then-count-eq0 c =
     none_copied a.count a.request.now a.out.now c.if-count-eq0.true
 
 pub copy_unknown-requires : goal.copy_unknown-requires
-copy_unknown-requires c κs =
+copy_unknown-requires c =
     let a : _ = c.args in
     rw (← some_copied a.count a.request.now c.if-count-eq0.false c.first_tlv.ensures.0) c.requires
 

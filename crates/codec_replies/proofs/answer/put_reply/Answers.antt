@@ -4,7 +4,6 @@ use Rattle.codec_replies.specs.Reply.{header, timer_part, reply_of, reply_pdu}
 use Prim.Native.Nat.{ℕ}
 use mathlib.Core.List.{List}
 use native.Mathlib.Omega.{arith}
-use borrow.Author.Rules.{rules}
 use Rattle.codec_replies.proofs.answer.put_reply.Goals as goal
 
 pub overflow_add-n : goal.overflow_add-n
@@ -20,7 +19,7 @@ slice_bounds-put_copies-start c =
     omega (arith, c.put_timer_part-n.ensures.1.0, c.requires.1.0, c.requires.1.1)
 
 pub put_copies-requires : goal.put_copies-requires
-put_copies-requires c κs =
+put_copies-requires c =
     omega (arith, c.put_timer_part-n.ensures.1.0, c.requires.1.0, c.requires.1.1)
 
 pub overflow_add-m : goal.overflow_add-m
@@ -36,7 +35,7 @@ slice_bounds-copy_into-start c =
     omega (arith, c.put_timer_part-n.ensures.1.0, c.put_copies.ensures.0, c.requires.1.0, c.requires.1.1)
 
 pub copy_into-requires : goal.copy_into-requires
-copy_into-requires c κs =
+copy_into-requires c =
     omega (arith, c.put_timer_part-n.ensures.1.0, c.put_copies.ensures.0, c.requires.1.0, c.requires.1.1)
 
 pub overflow_add-result : goal.overflow_add-result

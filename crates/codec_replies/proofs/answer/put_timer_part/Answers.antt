@@ -1,5 +1,4 @@
 use Rattle.codec_replies.proofs.Parts.{under_code_1, in_activate, in_state, in_others}
-use borrow.Author.Rules.{rules}
 use Rattle.codec_replies.proofs.answer.put_timer_part.Goals as goal
 
 pub returns-then-code-eq-MALFORMED : goal.returns-then-code-eq-MALFORMED

@@ -1,5 +1,4 @@
 use native.Mathlib.Nat.{add-zero}
-use borrow.Author.Rules.{rules}
 use Rattle.codec_replies.specs.Reply.{flags_by}
 use Rattle.codec_replies.proofs.reply.flags_of.Goals as goal
 

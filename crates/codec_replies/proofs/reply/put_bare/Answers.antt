@@ -2,7 +2,6 @@ use mathlib.Core.Path.{refl}
 use mathlib.Core.List.{List, [], ◌∷◌}
 use Prim.Native.Nat.{ℕ}
 use native.Mathlib.Omega.{arith}
-use borrow.Author.Rules.{rules}
 use Rattle.octets.proofs.Over.{then_over}
 use Rattle.codec_replies.specs.Reply.{header}
 use Rattle.codec_replies.proofs.Parts.{header_length}

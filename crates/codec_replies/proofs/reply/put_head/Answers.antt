@@ -1,5 +1,4 @@
 use native.Mathlib.Omega.{arith}
-use borrow.Author.Rules.{rules}
 use Rattle.codec_replies.proofs.Write.{head_over}
 use Rattle.codec_replies.proofs.reply.put_head.Goals as goal
 

@@ -1,4 +1,3 @@
-use borrow.Author.Rules.{rules}
 use Rattle.octets.specs.Octets.{octets}
 use Rattle.codec_replies.specs.Reply.{header}
 use Rattle.codec_replies.proofs.reply.put_header.Goals as goal
