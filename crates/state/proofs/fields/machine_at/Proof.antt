@@ -1,15 +1,15 @@
-use Rattle.state.proofs.Answers.{row-none, row-owed, row_open}
+use Rattle.state.proofs.Answers.{row_none, row_owed, row_open}
 use borrow.Author.Rules.{rules}
 use Rattle.state.proofs.fields.machine_at.Statement.{statement}
 use Rattle.state.proofs.fields.machine_at.Tie as tie
 
 returns : tie.Need-returns
-returns c = row-none _ c.if1.true
+returns c = row_none _ c.if1.true
 
 returns-2 : tie.Need-returns-2
 returns-2 c =
     let t : _ = c.before.before in
-    row-owed _ t.before.if1.false t.read-session.ensures.0 c.if2.true
+    row_owed _ t.before.if1.false t.read-session.ensures.0 c.if2.true
 
 returns-3 : tie.Need-returns-3
 returns-3 c =
