@@ -1,5 +1,5 @@
 -- MACHINE-3 to MACHINE-11: each request, at an inactive machine, at one that its own MP activated, and at another MP's.
-use Rattle.std.proofs.Common.{◌≡◌, ℕ, ◌*◌, Bool, true, false, cond, eqb, List, [], ◌∷◌, refl, eq-eqb}
+use Rattle.std.proofs.Common.{◌≡◌, ℕ, ◌*◌, Bool, true, false, cond, eqb, [], ◌∷◌, refl, eq-eqb}
 use mathlib.Core.Bool.{or-true}
 use Rattle.octets.specs.Lists.{some}
 use Rattle.machine.specs.declared.Session.{Session}

@@ -1,5 +1,6 @@
 // The plan: its records, and rules of it that several rooms test.
 #![tactic(auto)]
+
 mod rules;
 mod words;
 
