@@ -1,5 +1,4 @@
 use native.Mathlib.Omega.{arith}
-use borrow.Author.Rules.{rules}
 use Rattle.plan_reader.proofs.AddLaws.{FlowFits, flow_fits_lem, flow_added}
 use Rattle.plan_reader.proofs.additions.with_flow.Goals as goal
 

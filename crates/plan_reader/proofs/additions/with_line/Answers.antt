@@ -1,4 +1,3 @@
-use borrow.Author.Rules.{rules}
 use Rattle.plan_reader.specs.ReadPlan.{said_reason, said_added}
 use Rattle.plan_reader.proofs.additions.with_line.Goals as goal
 

@@ -1,5 +1,4 @@
 use native.Mathlib.Omega.{arith}
-use borrow.Author.Rules.{rules}
 use Rattle.plan_reader.proofs.AddLaws.{PortFits, port_fits_lem, port_added}
 use Rattle.plan_reader.proofs.additions.with_port.Goals as goal
 

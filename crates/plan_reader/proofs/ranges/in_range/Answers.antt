@@ -4,8 +4,8 @@ use Rattle.plan_reader.proofs.ranges.in_range.Goals as goal
 
 pub returns-then-x-low : goal.returns-then-x-low
 unfolding within
-returns-then-x-low c = rw (lt-leb _ _ c.if-x-low.taken)
+returns-then-x-low c = rw (lt-leb _ _ c.if-x-low.true)
 
 pub returns : goal.returns
 unfolding within
-returns c = rw (le-leb _ _ c.if-x-low.left)
+returns c = rw (le-leb _ _ c.if-x-low.false)

@@ -1,4 +1,3 @@
-use borrow.Author.Rules.{rules}
 use Rattle.plan_reader.proofs.ReasonLaws.{there, gone}
 use Rattle.plan_reader.proofs.reasons.flow_again.Goals as goal
 

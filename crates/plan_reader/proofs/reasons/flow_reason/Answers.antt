@@ -2,8 +2,6 @@ use mathlib.Core.Path.{◌≡◌, sym, ◌∙◌}
 use mathlib.Core.Bool.{cond}
 use Prim.Native.Nat.{◌≤◌}
 use native.Mathlib.Omega.{arith}
-use borrow.Author.Tests.{not-true, not-false}
-use borrow.Author.Rules.{rules}
 use Rattle.codec.specs.FrameSet.{set_of}
 use Rattle.plan.specs.Plan.{port_numbered, flow_numbered, flow_of_set}
 use Rattle.plan.specs.PlanText.{flow_reason}

@@ -3,7 +3,6 @@ use mathlib.Core.Bool.{cond}
 use lib.Dec.{leb}
 use native.Mathlib.Omega.{arith}
 use borrow.Author.Tests.{le-leb, lt-leb}
-use borrow.Author.Rules.{rules}
 use Rattle.plan.specs.Plan.{flow_numbered, in_plan, mp_at}
 use Rattle.plan.specs.PlanText.{mp_reason}
 use Rattle.plan.specs.Records.{plan_of}

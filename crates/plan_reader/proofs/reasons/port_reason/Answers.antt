@@ -1,5 +1,4 @@
 use mathlib.Core.Path.{sym, ◌∙◌}
-use borrow.Author.Rules.{rules}
 use Rattle.plan.specs.Plan.{port_numbered}
 use Rattle.plan.specs.PlanText.{port_reason}
 use Rattle.plan.specs.Records.{plan_of}

@@ -1,4 +1,3 @@
-use borrow.Author.Rules.{rules}
 use Rattle.plan_reader.specs.ReadPlan.{said_reason}
 use Rattle.plan_reader.proofs.reasons.reason_of.Goals as goal
 

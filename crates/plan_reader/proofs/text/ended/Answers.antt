@@ -1,5 +1,4 @@
 use mathlib.Core.Path.{sym, ap, ◌∙◌}
-use borrow.Author.Rules.{rules}
 use Rattle.plan.specs.PlanText.{finished}
 use Rattle.plan.specs.Records.{plan_of}
 use Rattle.plan_reader.specs.ReadPlan.{read_as}

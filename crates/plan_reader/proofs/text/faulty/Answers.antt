@@ -1,4 +1,3 @@
-use borrow.Author.Rules.{rules}
 use Rattle.plan_reader.specs.ReadPlan.{read_as}
 use Rattle.plan_reader.proofs.text.faulty.Goals as goal
 

@@ -1,4 +1,3 @@
-use borrow.Author.Rules.{rules}
 use Rattle.plan.specs.PlanText.{empty_plan}
 use Rattle.plan.specs.Records.{filled, by_value}
 use Rattle.plan_reader.proofs.text.no_records.Goals as goal

@@ -1,12 +1,11 @@
 use mathlib.Core.Path.{sym, ap, ◌∙◌}
-use Prim.Native.Nat.{◌+◌, ◌-◌, ◌<◌, ◌≤◌}
+use Prim.Native.Nat.{◌<◌}
 use native.Mathlib.Omega.{arith}
 use lib.ListN.{length}
-use borrow.Author.Rules.{rules}
 use borrow.Author.Tests.{lt-ltb, le-ltb}
 use Rattle.plan.specs.PlanText.{plan_in}
 use Rattle.plan_reader.specs.ReadPlan.{read_as}
-use Rattle.plan_reader.proofs.ReadLaws.{ReadTo, none_read, all_read, cut_off, line_faulty, line_good}
+use Rattle.plan_reader.proofs.ReadLaws.{none_read, all_read, cut_off, line_faulty, line_good}
 use Rattle.plan_reader.proofs.text.read_plan.Goals as goal
 
 pub returns-then-text-gt-LONGEST_TEXT : goal.returns-then-text-gt-LONGEST_TEXT
@@ -42,7 +41,7 @@ returns-then-reason-ne-NO_FAULT c =
     (c.faulty-then-reason-ne-NO_FAULT.ensures
     ∙ ap read_as
     (line_faulty c.args.text.now l.at e.result l.n l.records l.invariant.2 e.ensures.0
-    e.ensures.1.0 (omega (arith, e.ensures.1.1, c.if-end-text.false)) c.Line-of.ensures
+    e.ensures.1.0 (omega (arith, e.ensures.1.1, c.if-end-text.false)) c.line_of-line.ensures
     c.reason_of-reason.ensures c.if-reason-ne-NO_FAULT.true))
 
 pub with_line-records-requires : goal.with_line-records-requires
@@ -70,7 +69,7 @@ loop-at-preserved c =
     let t : _ = c.args.text.now in
     let e : _ = c.end_of-end in
     let h : e.result < length t = omega (arith, e.ensures.1.1, c.if-end-text.false) in
-    let s : _ = c.Line-of.ensures in
+    let s : _ = c.line_of-line.ensures in
     let r : _ = c.reason_of-reason.ensures in (
       omega arith,
       omega (arith, l.invariant.1, e.ensures.1.0),

@@ -1,12 +1,6 @@
-use mathlib.Core.Path.{sym, ap, ◌∙◌}
-use Prim.Native.Nat.{◌+◌, ◌-◌, ◌<◌, ◌≤◌}
-use native.Mathlib.Omega.{arith}
+use Prim.Native.Nat.{◌+◌, ◌-◌, ◌≤◌}
 use lib.ListN.{length}
-use borrow.Author.Rules.{rules}
-use borrow.Author.Tests.{lt-ltb, le-ltb}
-use Rattle.plan.specs.PlanText.{plan_in}
-use Rattle.plan_reader.specs.ReadPlan.{read_as}
-use Rattle.plan_reader.proofs.ReadLaws.{ReadTo, none_read, all_read, cut_off, line_faulty, line_good}
+use Rattle.plan_reader.proofs.ReadLaws.{ReadTo}
 use Rattle.plan_reader.proofs.text.read_plan.Given as goal
 
 abbrev pub invariant-loop-at : goal.invariant-loop-at
