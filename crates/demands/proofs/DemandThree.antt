@@ -10,7 +10,6 @@ use Rattle.plan.specs.PlanText.{planned, plan_in}
 use Rattle.state.specs.Image.{state_of, ok_image}
 use Rattle.calls.specs.Calls.{Call, make, frame}
 use Rattle.demands.specs.World.{World, fresh}
-use Rattle.demands.specs.Calls.{call}
 use Rattle.demands.specs.Runs.{Seen, EntriesRun, ended, entered, AllTyped}
 use Rattle.demands.specs.Shown.{world_of}
 use Rattle.demands.specs.LaterRuns.{Became, left_alone, Rewritten, equal, AllMatch, next}

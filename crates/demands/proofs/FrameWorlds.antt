@@ -17,7 +17,6 @@ use Rattle.machine.specs.declared.Fate.TheVariants.{Forward, Drop, Loop}
 use Rattle.plan.specs.Plan.{in_plan}
 use Rattle.calls.specs.declared.Answer.TheVariants.{Forwarded, Dropped}
 use Rattle.calls.specs.Frame.{Arrived, pdu, for_mp, goes_on}
-use Rattle.calls.specs.Calls.{frame}
 use Rattle.demands.specs.Machine.{Machine, Step, gets, is_prohibited}
 use Rattle.demands.specs.World.{World, become}
 use Rattle.demands.specs.Frame.{leaves, sends, own, by_fate, data_served, replied, stepped, answers, request_served}

@@ -1,6 +1,6 @@
 -- A run of a world whose requests are rewritten: what is seen of the calls matches, and each leaves the same world.
 use mathlib.Core.Path.{◌≡◌, refl}
-use mathlib.Core.List.{List, ◌∷◌}
+use mathlib.Core.List.{List}
 use Prim.Native.Nat.{ℕ, ◌+◌}
 use lib.ListN.{length}
 use Rattle.codec.specs.declared.FrameSet.{FrameSet}

@@ -2,7 +2,7 @@
 -- call is valid, and the last one shows the world after the calls.
 use mathlib.Core.Path.{◌≡◌, refl}
 use mathlib.Core.Bool.{true}
-use mathlib.Core.List.{List, [], ◌∷◌}
+use mathlib.Core.List.{List}
 use Prim.Native.Nat.{ℕ, ◌*◌, ◌≤◌, ◌^◌}
 use Rattle.octets.specs.Lists.{every}
 use Rattle.state.specs.Image.{state_of, ok_image}

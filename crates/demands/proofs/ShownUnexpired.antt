@@ -13,7 +13,6 @@ use Rattle.plan.specs.Plan.{flow_of_set, in_plan}
 use Rattle.state.specs.State.{State, is_allowed, good_session, valid}
 use Rattle.octets.proofs.ListLaws.{within_low}
 use Rattle.state.proofs.Rules.{valid_parts}
-use Rattle.calls.specs.Calls.{notice}
 use Rattle.calls.proofs.Standing.{good_parts, open_time}
 use Rattle.demands.specs.Machine.{Owed, nothing, notice as owing, prohibited, active}
 use Rattle.demands.specs.World.{World}

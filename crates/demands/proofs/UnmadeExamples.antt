@@ -11,7 +11,6 @@ use Rattle.plan.specs.Line.{joined, parted, field, is_digit, is_number, is_addre
 use Rattle.plan.specs.Line.{as_port, by_word, line_of}
 use Rattle.plan.specs.Plan.{no_port, port_numbered, in_plan, good_address}
 use Rattle.plan.specs.PlanText.{plan_in, empty_plan, read_lines, finished, added, reason_of, port_reason}
-use Rattle.calls.specs.declared.Answer.{Answer}
 use Rattle.calls.specs.declared.Answer.TheVariants.{Refused, Done, Faulty}
 use Rattle.calls.specs.Calls.{Call, make, tick}
 use Rattle.demands.specs.Unmade.{is_plan, makes_state, made_of, unmade}

@@ -1,12 +1,12 @@
 -- A run of the C entries on octets that no valid state has, of any length: every call gets 8, a faulty plan its fault, and no octet
 -- changes, until a call makes a state.
-use mathlib.Core.Path.{◌≡◌, refl, sym}
+use mathlib.Core.Path.{◌≡◌, refl}
 use mathlib.Core.Bool.{Bool, true, false, cond, not, ◌&&◌, true≢false}
 use mathlib.Core.List.{List, [], ◌∷◌, ◌++◌, map}
 use Prim.Native.Nat.{ℕ, ◌*◌, ◌≤◌, ◌^◌}
 use lib.Dec.{eqb}
 use lib.ListN.{length}
-use borrow.Author.Tests.{not-true, eq-eqb}
+use borrow.Author.Tests.{not-true}
 use Rattle.octets.specs.Lists.{every}
 use Rattle.octets.proofs.Same.{both_true}
 use Rattle.plan.specs.Plan.{Plan}

@@ -1,5 +1,6 @@
 // A unit's log on a desk: a line of it read into an event, and the line that is printed for what a call answered.
 #![tactic(auto)]
+
 mod answers;
 mod digits;
 mod fields;
