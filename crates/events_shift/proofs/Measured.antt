@@ -25,7 +25,6 @@ use Rattle.calls.specs.declared.Answer.TheVariants.{Replied, RepliedForwarded}
 use Rattle.calls.specs.Answer.{Sent, packed, number_of, leaves, sends}
 use Rattle.calls.specs.Frame.{Arrived, goes_on, replied, frame_served}
 use Rattle.calls.specs.Notice.{port_of, noticed, notice_served}
-use Rattle.calls.specs.Calls as calls
 use Rattle.calls.proofs.Standing.{good_parts}
 use Rattle.calls.proofs.FrameEach.{frame_each}
 

@@ -1,5 +1,6 @@
 // A recorded shift: the lines of a log run on the image, each answered by a line, and input cut into lines as it arrives.
 #![tactic(auto)]
+
 mod cut;
 mod making;
 mod serve;
