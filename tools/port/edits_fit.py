@@ -4,8 +4,8 @@
 usage: python3 tools/port/edits_fit.py          at the top of the repository
        python3 tools/port/edits_fit.py CRATE..  the edits of these crates
 
-Each `old:` text has to stand exactly once in its file, as the pairs before it left it, and has to be replaced by another text. No
-two pairs of an edit may have places that overlap. Prints the edits that do not fit; exits 1 if there are any.
+Each `old:` text has to stand exactly once in its file, both as the file is (so host/wrong reads an edit) and as the pairs before it
+left it (so rt reads one), and has to be replaced by another text. Prints the edits that do not fit; exits 1 if there are any.
 """
 import glob
 import os
@@ -33,12 +33,13 @@ def pairs(text):
     return (found, None) if found else (None, "it has no pair")
 
 
-def fault(crate, path, lay=None):
+def fault(crate, path):
+    """Why the edit does not fit, or None."""
     with open(path, encoding="utf-8") as f:
         found, why = pairs(f.read())
     if why:
         return why
-    texts = {}
+    texts, was = {}, {}
     for file, old, new in found:
         if not file.startswith(("src/", "specs/")):
             return f"{file} is not below src/ or specs/"
@@ -47,15 +48,13 @@ def fault(crate, path, lay=None):
             if not os.path.isfile(at):
                 return f"there is no {at}"
             with open(at, encoding="utf-8") as f:
-                texts[file] = f.read()
+                texts[file] = was[file] = f.read()
         if old == new:
             return f"it replaces nothing in {file}"
-        n = texts[file].count(old)
-        if n != 1:
-            return f"{file} has {n} times: {old}"
+        for text, state in ((was[file], "as it is"), (texts[file], "as the pairs before left it")):
+            if text.count(old) != 1:
+                return f"{file}, {state}, has {text.count(old)} times: {old}"
         texts[file] = texts[file].replace(old, new)
-    if lay is not None:
-        lay.update(texts)
     return None
 
 
