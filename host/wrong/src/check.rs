@@ -67,6 +67,11 @@ impl Checker {
     /// The names that the kit has for the goals and steps of a function, when these are the crate's files. No proof is checked.
     pub fn names(&self, krate: &Listed, files: &Files, function: &str, label: &str) -> io::Result<Names> {
         let folder = self.laid(krate, files, label)?;
+        // The kit makes not each folder that it writes to.
+        let path = function.replace("::", "/");
+        for library in ["specs/contracts", "specs/declared", "proofs"] {
+            fs::create_dir_all(folder.join(format!("made/Rattle-{}-{library}/{path}", krate.name)))?;
+        }
         let mut command = self.command(krate, &folder);
         command.args(["--generated", "made", "--start", function]);
         self.run(command, &folder.with_extension("log"))?;

@@ -14,14 +14,18 @@ use crate::edit::Files;
 #[derive(Debug, PartialEq, Eq)]
 pub struct Names(Vec<Vec<String>>);
 
-/// The modules with the names that a proof can cite.
+/// The modules with the names that a proof can cite; not each function has all of them.
 const MODULES: [&str; 4] = ["AnswersOffered.antt", "InvariantsOffered.antt", "Lts/View.antt", "Lts.antt"];
 
 impl Names {
     /// Of the modules that were made of this function, its path below the crate.
     pub fn read(made: &Path, krate: &str, function: &str) -> io::Result<Names> {
         let folder = made.join(format!("Rattle-{krate}-proofs")).join(function.replace("::", "/"));
-        let read = |module: &&str| fs::read_to_string(folder.join(module)).map(|text| declared(&text));
+        let read = |module: &&str| match fs::read_to_string(folder.join(module)) {
+            Ok(text) => Ok(declared(&text)),
+            Err(fault) if fault.kind() == io::ErrorKind::NotFound => Ok(Vec::new()),
+            Err(fault) => Err(fault),
+        };
         Ok(Names(MODULES.iter().map(read).collect::<io::Result<_>>()?))
     }
 

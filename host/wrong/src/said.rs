@@ -134,7 +134,9 @@ fn ground(words: &str) -> Ground {
         Ground::Itself(Words::EquationLeft)
     } else if first.is_some_and(|name| TACTICS.contains(&name)) || words.starts_with("list the missing equation") {
         Ground::Itself(Words::Tactic)
-    } else if words.contains("the two types") && words.contains("differ") {
+    } else if words.contains("the two types") && words.contains("differ")
+        || words.contains("expected type `") && words.contains("but this has type `")
+    {
         Ground::Itself(Words::FalseFact)
     } else {
         Ground::Unfit
