@@ -4,7 +4,7 @@ use Rattle.codec.specs.declared.Read.{Read}
 use Rattle.codec.specs.FrameSet.{pdu_of}
 use Rattle.codec.specs.Request.{copied}
 use Rattle.codec.proofs.Said.{count_right}
-use Rattle.state.proofs.Answers.{machine-found}
+use Rattle.state.proofs.Answers.{machine_found}
 use Rattle.state.proofs.Inside.{session_fits_lem}
 use Rattle.calls_requests.proofs.Arrivals.{kind_is, key_is, read_is}
 use Rattle.calls_requests.proofs.Decisions.{own_right, change_placed, decision_replied}
@@ -37,7 +37,7 @@ decides-requires c κs =
       (
         p.1.0,
         (
-          own_right _ _ (q.before.before.key.ensures ∙ key_is p.0.0) (c.before.machine-at.ensures ∙ machine-found _ _ q.session-at.ensures),
+          own_right _ _ (q.before.before.key.ensures ∙ key_is p.0.0) (c.before.machine-at.ensures ∙ machine_found _ _ q.session-at.ensures),
           p.1.1.1,
         ),
       ),
@@ -78,7 +78,7 @@ returns c =
     answers_served a.b.now a.a a.frame.now a.whom (read_is k _ r.read_behind.ensures) d.decides.ensures
     (decision_replied k s.requires.1.1.1 read.request d.decides.ensures a.whom t.before.goes_on.result t.status-after.result
     (copied read.copies (pdu_of a.a.taglen a.frame.now)) t.before.goes_on.ensures (q.before.before.key.ensures ∙ key_is k)
-    (d.before.before.machine-at.ensures ∙ machine-found _ _ q.session-at.ensures) w.change-session.ensures t.status-after.ensures
+    (d.before.before.machine-at.ensures ∙ machine_found _ _ q.session-at.ensures) w.change-session.ensures t.status-after.ensures
     c.before.before.reply.ensures)
 
 pub answers-spec : {M : Type 1} → statement M

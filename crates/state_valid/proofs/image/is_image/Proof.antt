@@ -1,7 +1,7 @@
 use mathlib.Core.Path.{sym, ◌∙◌}
 use borrow.Author.Rules.{rules}
 use Rattle.octets.proofs.Laws.{Octets}
-use Rattle.state_valid.proofs.TestLaw.{test-law, short_law}
+use Rattle.state_valid.proofs.TestLaw.{test_law, short_law}
 use Rattle.state_valid.proofs.image.is_image.Statement.{statement}
 use Rattle.state_valid.proofs.image.is_image.Tie as tie
 
@@ -23,7 +23,7 @@ returns-2 c =
       c.before.before.before.before.before.before.if3.true,
       ← c.before.before.before.allowed-fits.ensures,
       c.before.before.if4.true,
-    ) at (test-law k.before.before.args.b.now (octets k) k.if1.false))
+    ) at (test_law k.before.before.args.b.now (octets k) k.if1.false))
 
 returns-3 : tie.Need-returns-3
 returns-3 c =
@@ -35,7 +35,7 @@ returns-3 c =
       c.before.before.before.before.if3.true,
       ← c.before.allowed-fits.ensures,
       c.if4.false,
-    ) at (test-law k.before.before.args.b.now (octets k) k.if1.false)
+    ) at (test_law k.before.before.args.b.now (octets k) k.if1.false)
 
 returns-4 : tie.Need-returns-4
 returns-4 c =
@@ -45,12 +45,12 @@ returns-4 c =
       c.before.before.if2.true,
       ← c.before.plan-fits.ensures,
       c.if3.false,
-    ) at (test-law k.before.before.args.b.now (octets k) k.if1.false)
+    ) at (test_law k.before.before.args.b.now (octets k) k.if1.false)
 
 returns-5 : tie.Need-returns-5
 returns-5 c =
     let k : _ = c.before.before in
-    rw (← c.before.free-zero.ensures, c.if2.false) at (test-law k.before.before.args.b.now (octets k) k.if1.false)
+    rw (← c.before.free-zero.ensures, c.if2.false) at (test_law k.before.before.args.b.now (octets k) k.if1.false)
 
 pub is-image-spec : {M : Type 1} → statement M
 is-image-spec =
