@@ -26,7 +26,11 @@ impl Names {
             Err(fault) if fault.kind() == io::ErrorKind::NotFound => Ok(Vec::new()),
             Err(fault) => Err(fault),
         };
-        Ok(Names(MODULES.iter().map(read).collect::<io::Result<_>>()?))
+        let names = Names(MODULES.iter().map(read).collect::<io::Result<_>>()?);
+        match names.0[0].is_empty() {
+            true => Err(io::Error::other(format!("the kit makes no goals of {function}"))),
+            false => Ok(names),
+        }
     }
 
     pub fn of(modules: &[&str]) -> Names {

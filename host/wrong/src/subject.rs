@@ -20,8 +20,11 @@ pub struct Subject {
     /// A line for each edit that can't be tried.
     pub bad: Vec<String>,
     /// The names of functions as they stand, as far as they were asked for.
-    names: Mutex<BTreeMap<String, Arc<Names>>>,
+    names: Mutex<BTreeMap<String, Asked>>,
 }
+
+/// The names of a function, once they are known.
+type Asked = Arc<Mutex<Option<Arc<Names>>>>;
 
 struct Tried {
     name: String,
@@ -98,15 +101,16 @@ impl Subject {
         Round { subject: self, label: label.to_string(), edits, is_renamed: false }
     }
 
-    /// The names of a function as it stands.
+    /// The names of a function as it stands. They are asked for once; who comes meanwhile waits.
     fn names(&self, checker: &Checker, function: &str) -> std::io::Result<Arc<Names>> {
-        let known = || self.names.lock().expect("no other worker has panicked");
-        if let Some(names) = known().get(function) {
+        let place = self.names.lock().expect("no other worker has panicked").entry(function.to_string()).or_default().clone();
+        let mut known = place.lock().expect("no other worker has panicked");
+        if let Some(names) = known.as_ref() {
             return Ok(names.clone());
         }
         let label = format!("names_of_{}", function.replace("::", "_"));
         let names = Arc::new(checker.names(&self.krate, &self.files, function, &label)?);
-        known().insert(function.to_string(), names.clone());
+        *known = Some(names.clone());
         Ok(names)
     }
 }
