@@ -96,7 +96,9 @@ fn of_definition(said: &Said) -> Verdict {
     if said.errors.iter().any(|fault| fault.file.starts_with("specs/")) {
         return Verdict::NotRefused("the edited definition is itself not admitted".to_string());
     }
-    if let Some(fault) = said.errors.iter().find(|fault| fault.file.starts_with("src/") && fault.ground == Ground::Unfit) {
+    if let Some(fault) =
+        said.errors.iter().find(|fault| fault.file.starts_with("src/") && fault.ground == Ground::Unfit)
+    {
         return Verdict::NotRefused(format!("a clause at {}:{} can't be read with it", fault.file, fault.line));
     }
     refused(&said.errors.iter().collect::<Vec<_>>())

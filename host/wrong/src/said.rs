@@ -134,11 +134,15 @@ fn ground(words: &str) -> Ground {
         Ground::Itself(Words::EquationLeft)
     } else if first.is_some_and(|name| TACTICS.contains(&name)) || words.starts_with("list the missing equation") {
         Ground::Itself(Words::Tactic)
-    } else if words.contains("the two types") && words.contains("differ")
-        || words.contains("expected type `") && words.contains("but this has type `")
-    {
+    } else if is_false_fact(words) {
         Ground::Itself(Words::FalseFact)
     } else {
         Ground::Unfit
     }
+}
+
+/// Two types, or the values of two terms, that are to be the same and differ.
+fn is_false_fact(words: &str) -> bool {
+    let two = ["the two types", "the two values", "the two sides"].iter().any(|two| words.contains(two));
+    two && words.contains("differ") || words.contains("expected type `") && words.contains("but this has type `")
 }

@@ -103,7 +103,8 @@ impl Subject {
 
     /// The names of a function as it stands. They are asked for once; who comes meanwhile waits.
     fn names(&self, checker: &Checker, function: &str) -> std::io::Result<Arc<Names>> {
-        let place = self.names.lock().expect("no other worker has panicked").entry(function.to_string()).or_default().clone();
+        let place =
+            self.names.lock().expect("no other worker has panicked").entry(function.to_string()).or_default().clone();
         let mut known = place.lock().expect("no other worker has panicked");
         if let Some(names) = known.as_ref() {
             return Ok(names.clone());
@@ -173,9 +174,7 @@ impl<'a> Round<'a> {
     pub fn again(&self, verdicts: &[(String, Verdict)]) -> Vec<Round<'a>> {
         let several = self.edits.len() > 1;
         let again = self.edits.iter().zip(verdicts).filter_map(|(edit, (_, verdict))| match verdict {
-            Verdict::OtherNames(_) if !self.is_renamed => {
-                Some(Round { is_renamed: true, ..self.subject.alone(*edit) })
-            }
+            Verdict::OtherNames(_) if !self.is_renamed => Some(Round { is_renamed: true, ..self.subject.alone(*edit) }),
             Verdict::NotRefused(_) if several => Some(self.subject.alone(*edit)),
             _ => None,
         });

@@ -19,7 +19,11 @@ fn only_what_is_wrong_and_refused_passes() {
     small.edit("not_there", "src/lib.rt", &[("if a < b {", "if b < a {")]);
     small.edit("there_twice", "src/lib.rt", &[("lesser", "greater")]);
     small.edit("of_no_function", "src/lib.rt", &[("std.specs.Prelude", "std.specs.Preludes")]);
-    small.edit("unknown_name", "src/lib.rt", &[("        return a; // the lesser", "        return nobody; // the lesser")]);
+    small.edit(
+        "unknown_name",
+        "src/lib.rt",
+        &[("        return a; // the lesser", "        return nobody; // the lesser")],
+    );
     small.edit("unknown_definition", "specs/Small.antt", &[("(leb a b) a b", "(leb a b) nobody b")]);
     small.edit("unknown_in_a_clause", "src/lib.rt", &[("{ result ≡ 7 }", "{ result ≡ eight }")]);
 
@@ -29,7 +33,11 @@ fn only_what_is_wrong_and_refused_passes() {
     }
     // Their proofs cite steps by names that the edits change.
     for name in ["renamed", "capped_by_eight"] {
-        assert!(ran.says(&format!("small/{name}: to be tried in the names that it gives to goals")), "{name}\n{}", ran.text);
+        assert!(
+            ran.says(&format!("small/{name}: to be tried in the names that it gives to goals")),
+            "{name}\n{}",
+            ran.text
+        );
     }
     assert!(ran.says("small/renamed: NOT REFUSED: small::least_of is still proved"), "{}", ran.text);
     for name in ["unknown_name", "unknown_definition", "unknown_in_a_clause"] {

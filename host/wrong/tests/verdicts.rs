@@ -15,19 +15,27 @@ fn caller(a: u8) -> u8 {
 }
 ";
 
-const FALSE_FACT: &str = "./proofs/callee/Answers.antt:23:134: error: `returns-2`: as printed, the two types first differ where one has \
+const FALSE_FACT: &str =
+    "./proofs/callee/Answers.antt:23:134: error: `returns-2`: as printed, the two types first differ where one has \
 `86400` (expected), right after `◌<◌`, and the other has `86401` (found)";
-const ANOTHER_TYPE: &str = "./proofs/callee/Answers.antt:22:24: error: `returns`: expected type `c.loop-i.acc ≡ 0 → ⊥`, but this has \
+const ANOTHER_TYPE: &str =
+    "./proofs/callee/Answers.antt:22:24: error: `returns`: expected type `c.loop-i.acc ≡ 0 → ⊥`, but this has \
 type `c.loop-i.acc ≡ 1 → ⊥`";
-const TACTIC: &str = "./proofs/callee/Answers.antt:12:13: error: `returns`: `rw`: no occurrence of the path's left endpoint in \
+const OTHER_VALUES: &str = "./proofs/Laws.antt:38:10: error: `back`: as printed, the two values first differ where one has `8` (found), at the \
+start, and the other has `7` (required)";
+const TACTIC: &str =
+    "./proofs/callee/Answers.antt:12:13: error: `returns`: `rw`: no occurrence of the path's left endpoint in \
 the goal: write the family yourself";
 const BOUND: &str =
     "./proofs/callee/Answers.antt:9:1: error: `returns`: list the missing equation with its arguments, or rewrite";
-const LEFT: &str = "./proofs/callee/Answers.antt:8:2: error: `returns`: give a proof of that as the last argument, `rw L t`";
+const LEFT: &str =
+    "./proofs/callee/Answers.antt:8:2: error: `returns`: give a proof of that as the last argument, `rw L t`";
 const UNNAMED: &str = "./proofs/callee/Answers.antt:20:15: error: `returns-then-a`: `goal.returns-then-a`: module \
 `Rattle.c.proofs.callee.Goals` has no `returns-then-a` that can be named from here (names in it that begin alike: `returns`)";
-const NO_STEP: &str = "./proofs/callee/Answers.antt:34:19: error: `returns`: record `View.In-After-f` has no field `if-a`";
-const ANOTHER_GOAL: &str = "./proofs/callee/Proof.antt:43:5: error: `callee_spec`: expected type `tie.Need-add-wide`, but this has type \
+const NO_STEP: &str =
+    "./proofs/callee/Answers.antt:34:19: error: `returns`: record `View.In-After-f` has no field `if-a`";
+const ANOTHER_GOAL: &str =
+    "./proofs/callee/Proof.antt:43:5: error: `callee_spec`: expected type `tie.Need-add-wide`, but this has type \
 `tie.Need-returns`";
 const UNREAD: &str = "./proofs/callee/Answers.antt:3:1: error: expected the end of the line";
 const NO_CLAUSE: &str = "./src/lib.rt:2:9: error: `callee`: expected type `ℕ`, but this has type `Bool`";
@@ -37,11 +45,11 @@ const MADE: &str = "note: src/lib.rt:1:1: it is not proved that what the functio
 at one of its limits";
 const VALUES: &str = "note: src/lib.rt:1:1: it is not proved that what the function ensures holds when it returns (`returns`); the facts \
 known there allow values at which this goal is false";
-const OF_A_LAW: &str =
-    "./proofs/Laws.antt:3:1: error: `law`: as printed, the two types first differ where one has `1`";
+const OF_A_LAW: &str = "./proofs/Laws.antt:3:1: error: `law`: as printed, the two types first differ where one has `1`";
 const OF_SPECS: &str = "./specs/Lib.antt:150:24: error: `seconds_left`: `foo` is not in scope";
 const CALLEE_NOT: &str = "fn c::callee: not proved";
-const CALLEE_NONE: &str = "fn c::callee: no proof: expected answers in ./proofs/callee/Answers.antt; `search` did not prove `returns`";
+const CALLEE_NONE: &str =
+    "fn c::callee: no proof: expected answers in ./proofs/callee/Answers.antt; `search` did not prove `returns`";
 const CALLER_NOT: &str = "fn c::caller: not proved; it calls `c::callee`, which is not proved";
 const NOT_PROVED: &str = "logic=not-proved";
 
@@ -126,6 +134,7 @@ fn a_function_that_is_proved_is_not_refused() {
 #[test]
 fn a_definition_is_refused_by_what_is_proved_of_it() {
     assert_eq!(place(verdict(&Wrong::Definition, &[OF_A_LAW, NOT_PROVED])).0, "proofs/Laws.antt:3");
+    assert_eq!(place(verdict(&Wrong::Definition, &[OTHER_VALUES, NOT_PROVED])).1, Words::FalseFact);
     assert!(!verdict(&Wrong::Definition, &[OF_SPECS, OF_A_LAW, NOT_PROVED]).is_refused());
     assert!(!verdict(&Wrong::Definition, &[NO_CLAUSE, OF_A_LAW, NOT_PROVED]).is_refused());
     assert!(!verdict(&Wrong::Definition, &[USED, NOT_PROVED]).is_refused());
