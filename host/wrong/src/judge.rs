@@ -1,7 +1,7 @@
 //! Whether a wrong program was refused for what it is.
 
 use crate::owner::Wrong;
-use crate::said::{Fault, Ground, Said, Words};
+use crate::said::{Fault, Ground, Said, State, Words};
 use crate::source::Function;
 
 #[derive(Debug)]
@@ -12,6 +12,8 @@ pub enum Verdict {
         words: Words,
     },
     NotRefused(String),
+    /// The proof of this function names goals or steps that have other names in the edited text.
+    OtherNames(String),
 }
 
 impl Verdict {
@@ -29,10 +31,23 @@ pub fn judge(wrong: &Wrong, said: &Said, functions: &[Function]) -> Verdict {
         Wrong::Bodies(names) => {
             let mut verdicts = names.iter().map(|name| in_function(name, said, functions));
             let first = verdicts.next().unwrap_or(Verdict::NotRefused("it edits no function".to_string()));
-            verdicts.fold(first, |best, next| if best.is_refused() { best } else { next })
+            verdicts.fold(first, best)
         }
         Wrong::Promise(name) => at_a_fact(in_function(name, said, functions)),
         Wrong::Definition => at_a_fact(of_definition(said)),
+    }
+}
+
+fn best(one: Verdict, other: Verdict) -> Verdict {
+    let rank = |verdict: &Verdict| match verdict {
+        Verdict::Refused { .. } => 0,
+        Verdict::OtherNames(_) => 1,
+        Verdict::NotRefused(_) => 2,
+    };
+    if rank(&other) < rank(&one) {
+        other
+    } else {
+        one
     }
 }
 
@@ -50,33 +65,43 @@ fn in_function(name: &str, said: &Said, functions: &[Function]) -> Verdict {
     let not_refused = |why: &str| Verdict::NotRefused(format!("{name} {why}"));
     match said.functions.get(name) {
         None => return not_refused("is not named by the check"),
-        Some(true) => return not_refused("is still proved"),
-        Some(false) => {}
+        Some(State::Proved) => return not_refused("is still proved"),
+        Some(State::Unknown) => return not_refused("is neither proved nor refused"),
+        Some(State::NotProved) => {}
     }
     let Some(function) = functions.iter().find(|f| f.name == name) else {
         return not_refused("is not in the sources");
     };
     let own: Vec<&Fault> = said.errors.iter().filter(|fault| is_own(fault, function)).collect();
-    refused(&own).unwrap_or_else(|| match own.is_empty() {
-        true => not_refused("has no error of its own"),
-        false => not_refused("is refused only because of what it uses, or as its proof does not fit"),
-    })
+    let is_unnamed = own.iter().any(|fault| fault.ground == Ground::Unnamed);
+    match refused(&own) {
+        // Where the proof names what is not there, a goal may be open for that alone.
+        Some(Verdict::Refused { words: Words::Tactic, .. }) | None if is_unnamed => {
+            Verdict::OtherNames(name.to_string())
+        }
+        Some(verdict) => verdict,
+        None if own.is_empty() => not_refused("has no error of its own"),
+        None => not_refused("is refused only because of what it uses, or as its proof does not fit"),
+    }
 }
 
 /// An error in the function's own part of proofs/, or a note at its place in src/.
 fn is_own(fault: &Fault, function: &Function) -> bool {
-    let path: Vec<&str> = function.name.split("::").skip(1).collect();
-    let folder = format!("proofs/{}/", path.join("/"));
-    fault.file.starts_with(&folder) || fault.file == function.file && function.lines.contains(&fault.line)
+    fault.file.starts_with(&function.proofs()) || fault.file == function.file && function.lines.contains(&fault.line)
 }
 
-/// A definition that is itself refused shows nothing: what is proved of it has to fail.
+/// A definition that is itself refused shows nothing: what is proved of it has to fail, in proofs/ or where the kit looks for the proof of a
+/// function.
 fn of_definition(said: &Said) -> Verdict {
-    let of_proofs: Vec<&Fault> = said.errors.iter().filter(|fault| fault.file.starts_with("proofs/")).collect();
     if said.errors.iter().any(|fault| fault.file.starts_with("specs/")) {
         return Verdict::NotRefused("the edited definition is itself not admitted".to_string());
     }
-    refused(&of_proofs)
+    if let Some(fault) =
+        said.errors.iter().find(|fault| fault.file.starts_with("src/") && fault.ground == Ground::Unfit)
+    {
+        return Verdict::NotRefused(format!("a clause at {}:{} can't be read with it", fault.file, fault.line));
+    }
+    refused(&said.errors.iter().collect::<Vec<_>>())
         .unwrap_or_else(|| Verdict::NotRefused("no law, example or function fails by itself".to_string()))
 }
 
@@ -84,7 +109,7 @@ fn of_definition(said: &Said) -> Verdict {
 fn refused(faults: &[&Fault]) -> Option<Verdict> {
     let itself = faults.iter().filter_map(|fault| match fault.ground {
         Ground::Itself(words) => Some((words, fault)),
-        Ground::Used | Ground::Unfit => None,
+        Ground::Used | Ground::Unnamed | Ground::Unfit => None,
     });
     let (words, fault) = itself.min_by_key(|(words, _)| *words)?;
     Some(Verdict::Refused { at: format!("{}:{}", fault.file, fault.line), words })

@@ -9,6 +9,7 @@ pub mod check;
 pub mod edit;
 pub mod judge;
 pub mod listed;
+pub mod names;
 pub mod operations;
 pub mod owner;
 pub mod report;

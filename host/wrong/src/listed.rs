@@ -1,13 +1,21 @@
 //! The repository: crates.txt, and the files of a crate.
 
+use std::collections::{BTreeMap, BTreeSet};
 use std::fs;
 use std::path::{Path, PathBuf};
 
 use crate::edit::Files;
 
+#[derive(Default)]
 pub struct Listed {
     pub name: String,
+    /// The crates of the repository that it names.
     pub uses: Vec<String>,
+    /// Those, and all below them.
+    pub below: Vec<String>,
+    /// The libraries of the kit that it names.
+    pub of_kit: Vec<String>,
+    pub is_static: bool,
 }
 
 /// The folder with crates.txt: this one, or the next above it that has one.
@@ -19,12 +27,42 @@ pub fn root(from: &Path) -> Result<PathBuf, String> {
 /// The crates in the order of crates.txt.
 pub fn crates(root: &Path) -> Result<Vec<Listed>, String> {
     let text = fs::read_to_string(root.join("crates.txt")).map_err(|fault| format!("crates.txt: {fault}"))?;
-    let lines = text.lines().filter_map(|line| line.split('#').next()?.split_once(':'));
-    let listed = |(name, uses): (&str, &str)| Listed {
-        name: name.trim().to_string(),
-        uses: uses.split_whitespace().map(str::to_string).collect(),
+    Ok(listed(&text))
+}
+
+/// The crates of a list with lines `NAME: DEP ..`, where words may stand behind the name: `NAME staticlib: DEP ..`
+pub fn listed(text: &str) -> Vec<Listed> {
+    let lines: Vec<(Vec<&str>, Vec<&str>)> = text
+        .lines()
+        .filter_map(|line| line.split('#').next()?.split_once(':'))
+        .map(|(name, uses)| (name.split_whitespace().collect(), uses.split_whitespace().collect()))
+        .collect();
+    let named = |words: &[&str]| words.first().copied().unwrap_or_default().to_string();
+    let ours: BTreeSet<String> = lines.iter().map(|(name, _)| named(name)).collect();
+    let uses = |words: &[&str], own: bool| -> Vec<String> {
+        words.iter().map(|word| word.to_string()).filter(|word| ours.contains(word) == own).collect()
     };
-    Ok(lines.map(listed).collect())
+    let direct: BTreeMap<String, Vec<String>> =
+        lines.iter().map(|(name, words)| (named(name), uses(words, true))).collect();
+    let one = |(name, words): &(Vec<&str>, Vec<&str>)| Listed {
+        name: named(name),
+        uses: uses(words, true),
+        below: below(&named(name), &direct),
+        of_kit: ["std".to_string()].into_iter().chain(uses(words, false)).collect(),
+        is_static: name.contains(&"staticlib"),
+    };
+    lines.iter().map(one).collect()
+}
+
+fn below(name: &str, direct: &BTreeMap<String, Vec<String>>) -> Vec<String> {
+    let mut found = BTreeSet::new();
+    let mut left: Vec<String> = direct.get(name).cloned().unwrap_or_default();
+    while let Some(next) = left.pop() {
+        if found.insert(next.clone()) {
+            left.extend(direct.get(&next).cloned().unwrap_or_default());
+        }
+    }
+    found.into_iter().collect()
 }
 
 /// What a check reads of a crate.

@@ -1,5 +1,7 @@
 //! What an edit makes wrong.
 
+use std::collections::BTreeSet;
+
 use crate::edit::{Files, Place};
 use crate::source::{self, Constant, Function};
 
@@ -10,6 +12,17 @@ pub enum Wrong {
     Promise(String),
     /// Something that definitions say.
     Definition,
+}
+
+impl Wrong {
+    /// The functions that are edited.
+    pub fn functions(&self) -> &[String] {
+        match self {
+            Wrong::Bodies(names) => names,
+            Wrong::Promise(name) => std::slice::from_ref(name),
+            Wrong::Definition => &[],
+        }
+    }
 }
 
 /// The functions of a crate, and where its constants are.
@@ -43,9 +56,41 @@ impl<'a> Sources<'a> {
 
     /// Whether one function's text names the other.
     pub fn uses(&self, user: &str, used: &str) -> bool {
-        let last = used.rsplit("::").next().unwrap_or(used);
-        let text = |f: &Function| &self.files[&f.file][f.whole.clone()];
-        self.functions.iter().any(|f| f.name == user && user != used && source::mentions(text(f), last))
+        user != used && self.named(user).is_some_and(|f| self.mentions(f, used))
+    }
+
+    /// Whether the one is not tried while the other is not proved: it has no proof of its own, and the kit looks for one only where all that
+    /// the function calls is proved.
+    pub fn waits(&self, user: &str, used: &str) -> bool {
+        let Some(first) = self.named(user).filter(|f| !self.has_answers(f)) else {
+            return false;
+        };
+        let mut seen = BTreeSet::from([user]);
+        let mut left = vec![first];
+        while let Some(f) = left.pop() {
+            for g in self.functions.iter().filter(|g| self.mentions(f, &g.name)) {
+                if g.name == used {
+                    return user != used;
+                }
+                if seen.insert(g.name.as_str()) {
+                    left.push(g);
+                }
+            }
+        }
+        false
+    }
+
+    fn named(&self, name: &str) -> Option<&Function> {
+        self.functions.iter().find(|f| f.name == name)
+    }
+
+    fn mentions(&self, f: &Function, used: &str) -> bool {
+        source::mentions(&self.files[&f.file][f.whole.clone()], used.rsplit("::").next().unwrap_or(used))
+    }
+
+    /// Whether its proof, or a part of it, stands in a file.
+    pub fn has_answers(&self, f: &Function) -> bool {
+        ["Answers.antt", "Proof.antt"].iter().any(|file| self.files.contains_key(&(f.proofs() + file)))
     }
 
     fn at(&self, place: &Place) -> Option<&Function> {

@@ -43,12 +43,16 @@ pub fn line(name: &str, verdict: &Verdict, seconds: u64) -> String {
     match verdict {
         Verdict::Refused { at, words } => format!("{name}: refused at {at}, {} ({seconds} s)", said(*words)),
         Verdict::NotRefused(why) => format!("{name}: NOT REFUSED: {why} ({seconds} s)"),
+        Verdict::OtherNames(function) => {
+            format!("{name}: NOT REFUSED: the proof of {function} names what is not there ({seconds} s)")
+        }
     }
 }
 
 fn said(words: Words) -> &'static str {
     match words {
         Words::FalseFact => "a false fact",
+        Words::Values => "values at which a goal is false",
         Words::EquationLeft => "an equation that is left",
         Words::Tactic => "in a tactic's words",
     }

@@ -13,9 +13,13 @@ struct Shared<'a> {
 }
 
 /// Rounds of edits. At most one edit of a function is in a round, so that bodies take as many rounds as the function with the
-/// most edits. A function whose promise is edited is with none that uses it, as that would fail by itself. An edit of a
-/// definition has a round of its own.
-pub fn rounds(wrongs: &[&Wrong], uses: impl Fn(&str, &str) -> bool) -> Vec<Vec<usize>> {
+/// most edits. A function whose promise is edited is with none that uses it, as that would fail by itself; and an edited function is with
+/// none that it waits for, as it would not be tried. An edit of a definition has a round of its own.
+pub fn rounds(
+    wrongs: &[&Wrong],
+    uses: impl Fn(&str, &str) -> bool,
+    waits: impl Fn(&str, &str) -> bool,
+) -> Vec<Vec<usize>> {
     let mut alone = Vec::new();
     let mut shared: Vec<Shared> = Vec::new();
     for (index, wrong) in wrongs.iter().enumerate() {
@@ -27,7 +31,7 @@ pub fn rounds(wrongs: &[&Wrong], uses: impl Fn(&str, &str) -> bool) -> Vec<Vec<u
                 continue;
             }
         };
-        let place = shared.iter().position(|round| round.takes(functions, promises, &uses));
+        let place = shared.iter().position(|round| round.takes(functions, promises, &uses, &waits));
         let place = place.unwrap_or_else(|| {
             shared.push(Shared::default());
             shared.len() - 1
@@ -41,10 +45,17 @@ pub fn rounds(wrongs: &[&Wrong], uses: impl Fn(&str, &str) -> bool) -> Vec<Vec<u
 }
 
 impl Shared<'_> {
-    fn takes(&self, functions: &[String], promise: Option<&str>, uses: &impl Fn(&str, &str) -> bool) -> bool {
+    fn takes(
+        &self,
+        functions: &[String],
+        promise: Option<&str>,
+        uses: &impl Fn(&str, &str) -> bool,
+        waits: &impl Fn(&str, &str) -> bool,
+    ) -> bool {
         let is_new = functions.iter().all(|name| !self.functions.contains(name.as_str()));
         let uses_none = functions.iter().all(|name| self.promises.iter().all(|promise| !uses(name, promise)));
         let is_unused = promise.is_none_or(|promise| self.functions.iter().all(|name| !uses(name, promise)));
-        is_new && uses_none && is_unused
+        let waits = |name: &String| self.functions.iter().any(|other| waits(name, other) || waits(other, name));
+        is_new && uses_none && is_unused && !functions.iter().any(waits)
     }
 }

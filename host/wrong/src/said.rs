@@ -5,11 +5,19 @@ use std::collections::BTreeMap;
 pub struct Said {
     /// Why the prover gave no verdict, where it gave none: the compiler stopped before it, or it could not tell.
     pub no_verdict: Option<String>,
-    /// For each function whether it is proved.
-    pub functions: BTreeMap<String, bool>,
+    pub functions: BTreeMap<String, State>,
     pub errors: Vec<Fault>,
 }
 
+#[derive(Clone, Copy, Debug, PartialEq, Eq)]
+pub enum State {
+    Proved,
+    NotProved,
+    /// The prover could not tell.
+    Unknown,
+}
+
+#[derive(Debug)]
 pub struct Fault {
     /// Its file's path in the crate, and the line.
     pub file: String,
@@ -24,7 +32,9 @@ pub enum Ground {
     Itself(Words),
     /// Something that it uses was not admitted.
     Used,
-    /// The text does not fit the code: a need is not there, or one more is, another name is not there, or it can't be read.
+    /// It names a goal, a step or another thing that is not there.
+    Unnamed,
+    /// The text does not fit the code, can't be read, or is refused in words that are not known here.
     Unfit,
 }
 
@@ -33,25 +43,29 @@ pub enum Ground {
 pub enum Words {
     /// A fact has another type than is wanted, as 86400 expected and 86401 found.
     FalseFact,
+    /// The prover has values at which a goal is false, though all that is known there holds.
+    Values,
     /// A tactic rewrote the goal, and leaves an equation of which there is no proof.
     EquationLeft,
     /// A tactic finds no way.
     Tactic,
 }
 
-const TACTICS: [&str; 5] = ["cc", "omega", "rw", "search", "simp"];
+const TACTICS: [&str; 9] = ["cc", "grind", "grw", "omega", "rw", "search", "simp", "subst", "transport"];
+const UNNAMED: [&str; 4] = ["that can be named from here", "is not in scope", "has no field", "is no name"];
+const VALUES: &str = "allow values at which this goal is false";
 
 impl Said {
-    /// Of what a check in this folder wrote.
-    pub fn read(text: &str, folder: &str) -> Said {
+    /// Of what a check wrote that ran in the crate's folder.
+    pub fn read(text: &str) -> Said {
         let judged = text.lines().any(|line| line.starts_with("logic=proved") || line.starts_with("logic=not-proved"));
         let stopped = || text.lines().find(|line| line.contains("error")).unwrap_or("it says nothing of it");
-        let no_verdict = (!judged).then(|| stopped().replace(folder, ""));
+        let no_verdict = (!judged).then(|| stopped().to_string());
         let mut said = Said { no_verdict, functions: BTreeMap::new(), errors: Vec::new() };
         for line in text.lines() {
             if let Some((name, state)) = line.strip_prefix("fn ").and_then(|rest| rest.split_once(": ")) {
-                said.functions.insert(name.to_string(), state == "proved");
-            } else if let Some(fault) = error(line, folder).or_else(|| note(line, folder)) {
+                said.functions.insert(name.to_string(), State::read(state));
+            } else if let Some(fault) = note(line).or_else(|| error(line)) {
                 said.errors.push(fault);
             }
         }
@@ -59,49 +73,76 @@ impl Said {
     }
 
     pub fn all_proved(&self) -> bool {
-        self.no_verdict.is_none() && self.errors.is_empty() && self.functions.values().all(|proved| *proved)
+        let proved = |state: &State| *state == State::Proved;
+        self.no_verdict.is_none() && self.errors.is_empty() && self.functions.values().all(proved)
     }
 }
 
-/// `FOLDER/proofs/a/f/Proof.antt:28:74: error: WORDS`
-fn error(line: &str, folder: &str) -> Option<Fault> {
+impl State {
+    fn read(words: &str) -> State {
+        if words == "proved" {
+            State::Proved
+        } else if words.starts_with("not proved") || words.starts_with("no proof") {
+            State::NotProved
+        } else {
+            State::Unknown
+        }
+    }
+}
+
+/// `./proofs/a/f/Answers.antt:28:74: error: WORDS`
+fn error(line: &str) -> Option<Fault> {
     let (place, words) = line.split_once(": error: ")?;
-    let (file, line) = placed(place, folder)?;
-    Some(Fault { file, line, ground: ground(words) })
+    let (file, line) = placed(place)?;
+    // What is said of a clause is that it can't be read: no proof stands in src/.
+    let ground = if file.starts_with("src/") { Ground::Unfit } else { ground(words) };
+    Some(Fault { file, line, ground })
 }
 
-/// `note: FOLDER/src/a.rt:82:1: it is not proved that ..`, of a function whose proof the toolchain makes.
-fn note(line: &str, folder: &str) -> Option<Fault> {
-    let (place, _) = line.strip_prefix("note: ")?.split_once(": it is not proved that ")?;
-    let (file, line) = placed(place, folder)?;
-    Some(Fault { file, line, ground: Ground::Itself(Words::Tactic) })
+/// `note: src/a.rt:82:1: it is not proved that .. (`GOAL`); WHY`, of a goal whose proof the kit looked for.
+fn note(line: &str) -> Option<Fault> {
+    let (place, words) = line.strip_prefix("note: ")?.split_once(": it is not proved that ")?;
+    let (file, line) = placed(place)?;
+    let words = if words.contains(VALUES) { Words::Values } else { Words::Tactic };
+    Some(Fault { file, line, ground: Ground::Itself(words) })
 }
 
-/// The file and the line of `FOLDER/FILE:LINE:COLUMN`.
-fn placed(place: &str, folder: &str) -> Option<(String, usize)> {
-    let mut parts = place.strip_prefix(folder)?.trim_start_matches('/').rsplitn(3, ':').skip(1);
+/// The file and the line of `./FILE:LINE:COLUMN`.
+fn placed(place: &str) -> Option<(String, usize)> {
+    let mut parts = place.strip_prefix("./").unwrap_or(place).rsplitn(3, ':').skip(1);
     let line = parts.next()?.parse().ok()?;
     Some((parts.next()?.to_string(), line))
 }
 
 /// An error begins with the name of what is refused, then the tactic's if it is one that refuses.
 fn ground(words: &str) -> Ground {
+    if ["was not admitted", "was not checked", "were not checked"].iter().any(|used| words.contains(used)) {
+        return Ground::Used;
+    }
     let Some((name, words)) = words.strip_prefix('`').and_then(|words| words.split_once("`: ")) else {
         return Ground::Unfit;
     };
-    if words.contains("was not admitted") {
-        return Ground::Used;
+    if UNNAMED.iter().any(|unnamed| words.contains(unnamed)) {
+        return Ground::Unnamed;
     }
-    // A function's `..-spec` only hands on what was proved: it fails where the code needs something else.
-    if name.ends_with("-spec") || words.contains("that can be named from here") || words.contains("is not in scope") {
+    // A function's `.._spec` only hands on what was proved: it fails where the code needs something else.
+    if name.ends_with("_spec") {
         return Ground::Unfit;
     }
     let first = words.strip_prefix('`').and_then(|words| words.split('`').next());
-    Ground::Itself(if words.starts_with("give a proof of that as the last argument") {
-        Words::EquationLeft
+    if words.starts_with("give a proof of that as the last argument") {
+        Ground::Itself(Words::EquationLeft)
     } else if first.is_some_and(|name| TACTICS.contains(&name)) || words.starts_with("list the missing equation") {
-        Words::Tactic
+        Ground::Itself(Words::Tactic)
+    } else if is_false_fact(words) {
+        Ground::Itself(Words::FalseFact)
     } else {
-        Words::FalseFact
-    })
+        Ground::Unfit
+    }
+}
+
+/// Two types, or the values of two terms, that are to be the same and differ.
+fn is_false_fact(words: &str) -> bool {
+    let two = ["the two types", "the two values", "the two sides"].iter().any(|two| words.contains(two));
+    two && words.contains("differ") || words.contains("expected type `") && words.contains("but this has type `")
 }

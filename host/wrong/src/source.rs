@@ -14,6 +14,18 @@ pub struct Function {
     pub lines: Range<usize>,
 }
 
+impl Function {
+    /// The function's path below the crate.
+    pub fn path(&self) -> &str {
+        self.name.split_once("::").map_or("", |(_, path)| path)
+    }
+
+    /// Its folder of proofs/.
+    pub fn proofs(&self) -> String {
+        format!("proofs/{}/", self.path().replace("::", "/"))
+    }
+}
+
 pub struct Constant {
     pub name: String,
     pub whole: Range<usize>,
@@ -43,7 +55,7 @@ impl Line<'_> {
     /// The line's words without what says who may use the item and how it is called.
     fn item(&self) -> &str {
         let text = self.text.trim_start();
-        let text = text.strip_prefix("pub ").unwrap_or(text);
+        let text = text.strip_prefix("pub(crate) ").or_else(|| text.strip_prefix("pub ")).unwrap_or(text);
         text.strip_prefix("extern \"C\" ").unwrap_or(text)
     }
 

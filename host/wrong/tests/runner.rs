@@ -6,34 +6,47 @@ use small::Small;
 
 #[test]
 fn only_what_is_wrong_and_refused_passes() {
-    let small = Small::proved();
-    small.edit("greater", "src/lib.rt", &[("        return a;", "        return b;")]);
+    let small = Small::written();
+    small.edit("greater", "src/lib.rt", &[("        return a; // the lesser", "        return b; // the lesser")]);
     small.edit("eight", "src/lib.rt", &[("SEVEN: usize = 7;", "SEVEN: usize = 8;")]);
+    small.edit("capped_by_eight", "src/lib.rt", &[("if a <= SEVEN {", "if a <= 8 {")]);
     small.edit("greater_by_definition", "specs/Small.antt", &[("(leb a b) a b", "(leb a b) b a")]);
+    small.edit("says_eight", "src/lib.rt", &[("{ result ≡ 7 }", "{ result ≡ 8 }")]);
     let renamed =
         [("let first = lesser(a, b);", "let found = lesser(a, b);"), ("lesser(first, c)", "lesser(found, c)")];
     small.edit("renamed", "src/lib.rt", &renamed);
     small.edit("other_operations", "src/lib.rt", &[("if a <= b {", "if !(b < a) {")]);
     small.edit("not_there", "src/lib.rt", &[("if a < b {", "if b < a {")]);
     small.edit("there_twice", "src/lib.rt", &[("lesser", "greater")]);
-    small.edit("of_no_function", "src/lib.rt", &[("mathlib.Core.Path", "mathlib.Core.Paths")]);
-    small.edit("unknown_name", "src/lib.rt", &[("        return a;", "        return nobody;")]);
+    small.edit("of_no_function", "src/lib.rt", &[("std.specs.Prelude", "std.specs.Preludes")]);
+    small.edit(
+        "unknown_name",
+        "src/lib.rt",
+        &[("        return a; // the lesser", "        return nobody; // the lesser")],
+    );
     small.edit("unknown_definition", "specs/Small.antt", &[("(leb a b) a b", "(leb a b) nobody b")]);
+    small.edit("unknown_in_a_clause", "src/lib.rt", &[("{ result ≡ 7 }", "{ result ≡ eight }")]);
 
     let ran = small.run(&[]);
-    for name in ["greater", "eight", "greater_by_definition"] {
+    for name in ["greater", "eight", "capped_by_eight", "greater_by_definition", "says_eight"] {
         assert!(ran.says(&format!("small/{name}: refused at ")), "{name}\n{}", ran.text);
     }
-    // It is tried in one check with `greater`, where its only error is that what it calls is not proved; then alone.
-    assert!(ran.says("small/renamed: to be tried alone"), "{}", ran.text);
+    // Their proofs cite steps by names that the edits change.
+    for name in ["renamed", "capped_by_eight"] {
+        assert!(
+            ran.says(&format!("small/{name}: to be tried in the names that it gives to goals")),
+            "{name}\n{}",
+            ran.text
+        );
+    }
     assert!(ran.says("small/renamed: NOT REFUSED: small::least_of is still proved"), "{}", ran.text);
-    for name in ["unknown_name", "unknown_definition"] {
+    for name in ["unknown_name", "unknown_definition", "unknown_in_a_clause"] {
         assert!(ran.says(&format!("small/{name}: NOT REFUSED: ")), "{name}\n{}", ran.text);
     }
     for name in ["other_operations", "not_there", "there_twice", "of_no_function"] {
         assert!(ran.says(&format!("small/{name}: BAD EDIT: ")), "{name}\n{}", ran.text);
     }
-    assert_eq!(ran.text.lines().last(), Some("3 passed, 7 failed"));
+    assert_eq!(ran.text.lines().last(), Some("5 passed, 8 failed"));
     assert_eq!(ran.status, Some(1));
 }
 

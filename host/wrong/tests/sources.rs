@@ -103,6 +103,19 @@ fn a_function_uses_what_its_text_names() {
 }
 
 #[test]
+fn a_function_without_a_proof_of_its_own_waits_for_what_it_calls() {
+    let code = "fn f() {}\n\nfn g() {\n    f()\n}\n\nfn h() {\n    g()\n}\n\nfn k() {\n    g()\n}\n";
+    let files = Files::from([
+        ("src/a.rt".to_string(), code.to_string()),
+        ("proofs/a/k/Answers.antt".to_string(), String::new()),
+        ("proofs/a/h/Invariants.antt".to_string(), String::new()),
+    ]);
+    let sources = Sources::of("c", &files);
+    assert!(sources.waits("c::a::g", "c::a::f") && sources.waits("c::a::h", "c::a::f"));
+    assert!(!sources.waits("c::a::k", "c::a::f") && !sources.waits("c::a::f", "c::a::h"));
+}
+
+#[test]
 fn the_rest_is_a_definition_or_nothing() {
     assert!(matches!(wrong("specs/Lib.antt", "Readers"), Ok(Wrong::Definition)));
     assert!(wrong("src/readers.rt", "impl").is_err());

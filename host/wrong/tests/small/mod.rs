@@ -5,37 +5,48 @@ use std::fs;
 use std::path::{Path, PathBuf};
 use std::process::{self, Command, Output};
 
-const FILES: [(&str, &str); 6] = [
+const FILES: [(&str, &str); 7] = [
     ("crates.txt", "small:\n"),
     (
         "crates/small/src/lib.rt",
         "\
 // Numbers.
-ghost use mathlib.Core.Path.{_≡_};
-ghost use Rattle·small·specs.specs.Small.{least};
+#![tactic(auto)]
+
+ghost use Rattle.std.specs.Prelude.{◌≡◌};
+ghost use Rattle.small.specs.Small.{least};
 
 const SEVEN: usize = 7;
 
 pub fn lesser(a: usize, b: usize) -> usize
-    ensures { λ r. ⌜ r ≡ least a b ⌝ }
+    ensures { result ≡ least a b }
 {
     if a <= b {
-        return a;
+        return a; // the lesser
     }
     b
 }
 
 pub fn least_of(a: usize, b: usize, c: usize) -> usize
-    ensures { λ r. ⌜ r ≡ least (least a b) c ⌝ }
+    ensures { result ≡ least (least a b) c }
 {
     let first = lesser(a, b);
     lesser(first, c)
 }
 
 pub fn seven() -> usize
-    ensures { λ r. ⌜ r ≡ 7 ⌝ }
+    ensures { result ≡ 7 }
 {
     SEVEN
+}
+
+pub fn capped(a: usize) -> usize
+    ensures { result ≡ least a 7 }
+{
+    if a <= SEVEN {
+        return a;
+    }
+    seven()
 }
 ",
     ),
@@ -43,52 +54,51 @@ pub fn seven() -> usize
     (
         "crates/small/specs/Small.antt",
         "\
-use Prim.Native.Nat.{ℕ}
-use mathlib.Core.Bool.{cond}
-use lib.Dec.{leb}
+use Rattle.std.specs.Prelude.{ℕ, cond, leb}
 
 unfoldable pub least : ℕ → ℕ → ℕ
 least a b = cond (leb a b) a b
 ",
     ),
     (
-        "crates/small/proofs/lesser/Proof.antt",
+        "crates/small/proofs/lesser/Answers.antt",
         "\
 use borrow.Author.Tests.{le-leb, lt-leb}
-use Rattle·small·specs.specs.Small.{least}
-use Rattle·small·proofs.proofs.lesser.Statement.{statement}
-use Rattle·small·proofs.proofs.lesser.Tie as tie
+use Rattle.small.specs.Small.{least}
+use Rattle.small.proofs.lesser.Goals as goal
 
-returns : tie.Need-returns
+pub returns-then-a-b : goal.returns-then-a-b
 unfolding least
-returns c = rw (le-leb _ _ (c .if1 .taken))
+returns-then-a-b c = rw (le-leb _ _ c.if-a-b.true)
 
-returns-2 : tie.Need-returns-2
+pub returns : goal.returns
 unfolding least
-returns-2 c = rw (lt-leb _ _ (c .if1 .left))
-
-pub lesser-spec : {M : Type 1} → statement M
-lesser-spec = tie.close (tie.spec returns returns-2)
+returns c = rw (lt-leb _ _ c.if-a-b.false)
 ",
     ),
     (
-        "crates/small/proofs/least_of/Proof.antt",
+        "crates/small/proofs/least_of/Answers.antt",
         "\
-use borrow.Author.Needs.{needs}
-use Rattle·small·proofs.proofs.least_of.Statement.{statement}
-use Rattle·small·proofs.proofs.least_of.Tie as tie
+use Rattle.small.proofs.least_of.Goals as goal
 
-lesser-requires : tie.Need-lesser-requires
-lesser-requires c κs = search needs
+pub returns : goal.returns
+returns c = rw (c.lesser.ensures, c.lesser-first.ensures)
+",
+    ),
+    (
+        "crates/small/proofs/capped/Answers.antt",
+        "\
+use borrow.Author.Tests.{le-leb, lt-leb}
+use Rattle.small.specs.Small.{least}
+use Rattle.small.proofs.capped.Goals as goal
 
-lesser-requires-2 : tie.Need-lesser-requires-2
-lesser-requires-2 c κs = search needs
+pub returns-then-a-le-SEVEN : goal.returns-then-a-le-SEVEN
+unfolding least
+returns-then-a-le-SEVEN c = rw (le-leb _ _ c.if-a-le-SEVEN.true)
 
-returns : tie.Need-returns
-returns c = rw (c .lesser2 .ensures, c .before .lesser .ensures)
-
-pub least-of-spec : {M : Type 1} → statement M
-least-of-spec = tie.close (tie.spec lesser-requires lesser-requires-2 returns)
+pub returns : goal.returns
+unfolding least
+returns c = rw (lt-leb _ _ c.if-a-le-SEVEN.false, c.seven.ensures)
 ",
     ),
 ];
@@ -103,14 +113,11 @@ pub struct Ran {
 }
 
 impl Small {
-    /// Written and proved.
-    pub fn proved() -> Small {
+    pub fn written() -> Small {
         let root = std::env::temp_dir().join(format!("tmavolice_wrong_{}", process::id()));
         for (name, text) in FILES {
             write(&root.join(name), text);
         }
-        let rt = Command::new("rt").arg("check").current_dir(&root).output().expect("rt is on the path");
-        assert!(rt.status.success(), "{}", ran(rt).text);
         Small { root }
     }
 
