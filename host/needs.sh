@@ -1,8 +1,8 @@
 #!/bin/sh
-# Is what a command needs there, and new enough? Says in one line each what is missing. The kit may be another one than those that the
-# proofs were checked with: that is said, and goes on.
+# Is what a command needs there, and new enough? Says in one line each what is missing. The kit may be another one than that which the
+# proofs were checked with last: that is said, and goes on.
 # Usage: needs.sh [PROGRAM..], of rt gcc g++ clang cargo pkg-config
-logics='064da1ca440f63e7 097e4c862dff5811' # of the kits that the proofs were checked with
+logics='064da1ca440f63e7 097e4c862dff5811 dac8208d650f15bf' # of the kits that the proofs were checked with, the last one as they stand
 missing=0
 
 # The version of a program, its first number with a dot.
@@ -15,13 +15,6 @@ version_of() { # PROGRAM
 
 is_at_least() { # VERSION LEAST
     [ "$(printf '%s\n%s\n' "$1" "$2" | sort -t . -k 1,1n -k 2,2n | head -n 1)" = "$2" ]
-}
-
-is_listed() { # WORD WORD..
-    wanted=$1
-    shift
-    for one; do [ "$one" = "$wanted" ] && return 0; done
-    return 1
 }
 
 lacks() { # WORD..
@@ -43,8 +36,8 @@ for each; do
     rt)
         if ! command -v rt >/dev/null; then
             lacks "rt is needed: put the Rattle kit's folder bin on the path"
-        elif ! is_listed "$(rt version | sed 's/.* //')" $logics; then
-            echo "the proofs were checked with kits of logic $logics, and here is $(rt version): they may not pass" >&2
+        elif [ "$(rt version | sed 's/.* //')" != "${logics##* }" ]; then
+            echo "the proofs were checked with the kit of logic ${logics##* }, and here is $(rt version): they may not pass" >&2
         fi
         ;;
     cargo) need cargo 1.82 'from rustup.rs, or a package' ;;

@@ -65,9 +65,15 @@ check make -s -C host library programs
 check make -s -C host check
 check host/start.sh target/host/header_c
 check host/start.sh target/host/header_cpp
+check host/start.sh target/host/names_c
+check host/start.sh target/host/names_cpp
 check writes target/host/run host/run/stdout
 check writes target/host/example host/example/stdout
+check writes target/host/switch host/switch/stdout
 check answers target/bin/shift host/shift/log host/shift/answers
+check host/quoted.sh README.md text host/run/stdout
+check host/quoted.sh README.md log host/shift/log
+check host/quoted.sh README.md answers host/shift/answers
 check host/quoted.sh docs/BENCH.md text host/run/stdout all
 check host/quoted.sh docs/SHIFT.md log host/shift/log
 check host/quoted.sh docs/SHIFT.md answers host/shift/answers

@@ -44,7 +44,10 @@ enum {
 /* The side that a frame comes from, and that a notice goes to. */
 enum tmavolice_side {
     TMAVOLICE_SIDE_EXTERNAL = 0, /* the External Network */
-    TMAVOLICE_SIDE_CEN = 1       /* the carrier Ethernet network */
+    TMAVOLICE_SIDE_CEN = 1,      /* the carrier Ethernet network */
+    /* The same by their first names. */
+    TMAVOLICE_EXTERNAL = TMAVOLICE_SIDE_EXTERNAL,
+    TMAVOLICE_CEN = TMAVOLICE_SIDE_CEN
 };
 
 /* What a call answers, and what you do then. */
@@ -56,7 +59,16 @@ enum tmavolice_outcome {
     TMAVOLICE_OUTCOME_REPLY = 4,             /* the same; for a notice, send the output to the answer's port and side */
     TMAVOLICE_OUTCOME_REPLY_AND_FORWARD = 5, /* send the output back where the frame came from, and forward the frame */
     TMAVOLICE_OUTCOME_DONE = 6,              /* done; after a tick or a prohibit take the notices */
-    TMAVOLICE_OUTCOME_PLAN_FAULT = 7         /* nothing has changed; tmavolice_fault_of and tmavolice_line_of say why */
+    TMAVOLICE_OUTCOME_PLAN_FAULT = 7,        /* nothing has changed; tmavolice_fault_of and tmavolice_line_of say why */
+    /* The same by their first names. */
+    TMAVOLICE_REFUSED = TMAVOLICE_OUTCOME_REFUSED,
+    TMAVOLICE_FORWARD = TMAVOLICE_OUTCOME_FORWARD,
+    TMAVOLICE_DROP = TMAVOLICE_OUTCOME_DROP,
+    TMAVOLICE_LOOP = TMAVOLICE_OUTCOME_LOOP,
+    TMAVOLICE_REPLY = TMAVOLICE_OUTCOME_REPLY,
+    TMAVOLICE_REPLY_AND_FORWARD = TMAVOLICE_OUTCOME_REPLY_AND_FORWARD,
+    TMAVOLICE_DONE = TMAVOLICE_OUTCOME_DONE,
+    TMAVOLICE_PLAN_FAULT = TMAVOLICE_OUTCOME_PLAN_FAULT
 };
 
 /* Why a call was refused. */
@@ -69,7 +81,17 @@ enum tmavolice_refusal {
     TMAVOLICE_REFUSAL_CLOCK_JUMPED = 5,   /* the step from the last timestamp, modulo 2^32, is 2,147,483,648 ms or more */
     TMAVOLICE_REFUSAL_NO_SUCH_FLOW = 6,   /* the plan has no such flow */
     TMAVOLICE_REFUSAL_NO_NOTICE_DUE = 7,  /* there is no notice to take */
-    TMAVOLICE_REFUSAL_NO_VALID_IMAGE = 8  /* not 4,096 octets, or not a valid state's image */
+    TMAVOLICE_REFUSAL_NO_VALID_IMAGE = 8, /* not 4,096 octets, or not a valid state's image */
+    /* The same by their first names. */
+    TMAVOLICE_NOT_REFUSED = TMAVOLICE_REFUSAL_NONE,
+    TMAVOLICE_NO_SUCH_PLACE = TMAVOLICE_REFUSAL_NO_SUCH_PORT,
+    TMAVOLICE_FRAME_LENGTH = TMAVOLICE_REFUSAL_FRAME_LENGTH,
+    TMAVOLICE_SHORT_OUTPUT = TMAVOLICE_REFUSAL_SHORT_OUTPUT,
+    TMAVOLICE_NOTICE_DUE = TMAVOLICE_REFUSAL_NOTICE_DUE,
+    TMAVOLICE_CLOCK_JUMPED = TMAVOLICE_REFUSAL_CLOCK_JUMPED,
+    TMAVOLICE_NO_SUCH_FLOW = TMAVOLICE_REFUSAL_NO_SUCH_FLOW,
+    TMAVOLICE_NO_NOTICE_DUE = TMAVOLICE_REFUSAL_NO_NOTICE_DUE,
+    TMAVOLICE_NO_VALID_IMAGE = TMAVOLICE_REFUSAL_NO_VALID_IMAGE
 };
 
 /* What is wrong with a plan. */
@@ -81,7 +103,16 @@ enum tmavolice_fault {
     TMAVOLICE_FAULT_REPEATED = 4,      /* a number, an address, a kind and VID, or an MP level for the second time */
     TMAVOLICE_FAULT_TEXT_TOO_LONG = 5, /* more than 8,192 octets; line 0 */
     TMAVOLICE_FAULT_NO_PORT = 6,       /* an empty text; line 0 */
-    TMAVOLICE_FAULT_TOO_MANY_MPS = 7   /* a 33rd MP */
+    TMAVOLICE_FAULT_TOO_MANY_MPS = 7,  /* a 33rd MP */
+    /* The same by their first names. */
+    TMAVOLICE_NO_FAULT = TMAVOLICE_FAULT_NONE,
+    TMAVOLICE_UNREADABLE = TMAVOLICE_FAULT_UNREADABLE,
+    TMAVOLICE_OUT_OF_RANGE = TMAVOLICE_FAULT_OUT_OF_RANGE,
+    TMAVOLICE_UNNAMED = TMAVOLICE_FAULT_UNNAMED,
+    TMAVOLICE_REPEATED = TMAVOLICE_FAULT_REPEATED,
+    TMAVOLICE_TEXT_TOO_LONG = TMAVOLICE_FAULT_TEXT_TOO_LONG,
+    TMAVOLICE_NO_PORT = TMAVOLICE_FAULT_NO_PORT,
+    TMAVOLICE_TOO_MANY_MPS = TMAVOLICE_FAULT_TOO_MANY_MPS
 };
 
 /* The response code of an LLR, as MEF 46 numbers them. */

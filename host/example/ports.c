@@ -18,33 +18,13 @@ const struct arrival arrivals[ARRIVALS] = {
     {7, "data on VID 20", data_20, sizeof data_20},
     {8, "an Activate of 5 seconds on VID 20", activate, sizeof activate},
     {10, "an Activate of 5 seconds on VID 20", activate, sizeof activate},
-    {12, "an Activate of 5 seconds on VID 20", activate, sizeof activate},
 };
 
-static const char *name_of(uint32_t side) { return side == TMAVOLICE_SIDE_CEN ? "CEN" : "External Network"; }
-
-/* Here every frame has one tag. */
-static int is_llr(const uint8_t *octets, size_t length) {
-    return length > 23 && octets[16] == 0x89 && octets[17] == 0x02 && octets[19] == 56;
-}
+static const char *name_of(uint32_t side) { return side == TMAVOLICE_CEN ? "CEN" : "External Network"; }
 
 void transmit(uint32_t port, uint32_t side, const uint8_t *octets, size_t length) {
-    printf("  sent from port %u to the %s: %u octets for %02X-%02X-%02X-%02X-%02X-%02X", (unsigned)port, name_of(side),
+    printf("  sent from port %u to the %s: %u octets for %02X-%02X-%02X-%02X-%02X-%02X\n", (unsigned)port, name_of(side),
            (unsigned)length, octets[0], octets[1], octets[2], octets[3], octets[4], octets[5]);
-    if (is_llr(octets, length))
-        printf(", an LLR with code %u, %s", octets[23], tmavolice_code_text(octets[23]));
-    printf("\n");
-}
-
-void program(const struct rule *rules, size_t count) {
-    static const char *const tags[] = {"?", "untagged", "C-VID", "S-VID"};
-    size_t i;
-    for (i = 0; i < count; i++) {
-        const struct rule *r = &rules[i];
-        printf("  the switch loops back: port %u, %s %u, from %02X-%02X-%02X-%02X-%02X-%02X on the side of the %s\n", (unsigned)r->port,
-               tags[r->kind & 3], r->vid, r->tester[0], r->tester[1], r->tester[2], r->tester[3], r->tester[4], r->tester[5],
-               name_of(r->side));
-    }
 }
 
 void forward(uint32_t port, uint32_t side, const uint8_t *octets, size_t length) {

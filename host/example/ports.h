@@ -1,6 +1,5 @@
 #ifndef PORTS_H
 #define PORTS_H
-#include "rules.h"
 #include <stddef.h>
 #include <stdint.h>
 
@@ -14,16 +13,12 @@ struct arrival {
     size_t length;
 };
 
-enum { ARRIVALS = 8 };
+enum { ARRIVALS = 7 };
 
 extern const struct arrival arrivals[ARRIVALS];
 
-/* Sends octets from a port to one of its sides: to the CEN as if they had come in at the port, to the External Network out of the
- * port's wire. */
+/* Sends octets out of a port, towards one of its sides. */
 void transmit(uint32_t port, uint32_t side, const uint8_t *octets, size_t length);
-
-/* Has the switch loop back by these rules, and no others. */
-void program(const struct rule *rules, size_t count);
 
 /* Lets a frame pass from its side to the other. */
 void forward(uint32_t port, uint32_t side, const uint8_t *octets, size_t length);

@@ -17,7 +17,7 @@ struct bench_case {
     struct expected expected;
 };
 
-enum { CASES = 18 };
+enum { CASES = 13 };
 
 extern const struct bench_case bench_cases[CASES];
 

@@ -34,7 +34,7 @@ const char *message_of(const uint8_t *pdu) {
 static void show_flags(uint8_t flags) {
     printf("flags %02X", flags);
     if (flags & ACTIVE)
-        printf(" active, %s loopback", flags & FROM_EXTERNAL ? "external" : "internal");
+        printf(" active from the %s", flags & FROM_EXTERNAL ? "External Network" : "CEN");
     if (flags & COPIED)
         printf(" with TLVs copied");
 }

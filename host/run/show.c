@@ -35,7 +35,7 @@ void show_step(const struct step *s) {
     else if (s->call == NOTICE)
         printf("    take a notice\n");
     else
-        printf("    %-7s %lu\n", s->call == TICK ? "tick" : "restart", (unsigned long)s->number);
+        printf("    %-7s %lu\n", s->call == TICK ? "tick" : "restart", (unsigned long)s->clock);
 }
 
 static void show_output(const uint8_t *out, size_t length) {
@@ -43,19 +43,17 @@ static void show_output(const uint8_t *out, size_t length) {
     show_head(out);
     printf("\n            ");
     show_octets(out + BEHIND, length - BEHIND, ' ');
-    if (is_oam(out + TYPE)) {
-        printf("\n            ");
-        show_fields(out + BEHIND, length - BEHIND);
-    }
+    printf("\n            ");
+    show_fields(out + BEHIND, length - BEHIND);
 }
 
 void show_answer(uint64_t answer, const uint8_t *out) {
     printf("    answer  %s", outcomes[tmavolice_outcome_of(answer)]);
-    if (tmavolice_outcome_of(answer) == TMAVOLICE_OUTCOME_REFUSED)
+    if (tmavolice_outcome_of(answer) == TMAVOLICE_REFUSED)
         printf(", number %d", tmavolice_refusal_of(answer));
     if (tmavolice_port_of(answer) != 0)
         printf(" at port %lu, %s", (unsigned long)tmavolice_port_of(answer),
-               tmavolice_side_of(answer) == TMAVOLICE_SIDE_CEN ? "CEN" : "External");
+               tmavolice_side_of(answer) == TMAVOLICE_CEN ? "CEN" : "External");
     if (tmavolice_length_of(answer) > BEHIND)
         show_output(out, tmavolice_length_of(answer));
     printf("\n");

@@ -10,7 +10,7 @@ static const char bench_plan[] = "port\t1\tuni\t020000000001\n"
                                  "mp\t1\tup\t4\n";
 
 static void must_be_done(const char *call, uint64_t answer) {
-    if (tmavolice_outcome_of(answer) != TMAVOLICE_OUTCOME_DONE) {
+    if (tmavolice_outcome_of(answer) != TMAVOLICE_DONE) {
         fprintf(stderr, "%s: outcome %d\n", call, tmavolice_outcome_of(answer));
         exit(1);
     }
@@ -25,7 +25,7 @@ void make_bench_unit(struct unit *u) {
 static uint64_t hand_in(struct unit *u, const char *words) {
     uint8_t frame[TMAVOLICE_FRAME_MAX];
     size_t length = octets_of(words, frame, sizeof frame);
-    return tmavolice_frame(u->image, sizeof u->image, 1, TMAVOLICE_SIDE_CEN, frame, length, u->out, sizeof u->out);
+    return tmavolice_frame(u->image, sizeof u->image, 1, TMAVOLICE_CEN, frame, length, u->out, sizeof u->out);
 }
 
 uint64_t play(struct unit *u, const struct step *s) {
@@ -34,13 +34,11 @@ uint64_t play(struct unit *u, const struct step *s) {
     case FRAME:
         return hand_in(u, s->frame);
     case TICK:
-        return tmavolice_tick(u->image, sizeof u->image, s->number);
-    case PROHIBIT:
-        return tmavolice_prohibit(u->image, sizeof u->image, s->number);
+        return tmavolice_tick(u->image, sizeof u->image, s->clock);
     case NOTICE:
         return tmavolice_notice(u->image, sizeof u->image, u->out, sizeof u->out);
     case RESTART:
-        return tmavolice_restart(u->image, sizeof u->image, s->number);
+        return tmavolice_restart(u->image, sizeof u->image, s->clock);
     default:
         fprintf(stderr, "no such call\n");
         exit(1);

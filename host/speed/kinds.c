@@ -109,22 +109,22 @@ enum { ADDRESSES = 12, TYPE = 2, HEADER = 12, TIMER = 8, END = 1 };
 enum { ANY = ADDRESSES + TYPE, EMPTY = ANY + HEADER, LISTED = EMPTY + END, TIMED = LISTED + TIMER };
 
 const struct kind kinds[] = {
-    {"data of no flow, forwarded", TMAVOLICE_OUTCOME_FORWARD, ANY, of_no_flow, data},
-    {"data of another tester, forwarded", TMAVOLICE_OUTCOME_FORWARD, ANY, from_another_tester, data},
-    {"data from the other side, dropped", TMAVOLICE_OUTCOME_DROP, ANY, from_the_other_side, data},
-    {"data, looped", TMAVOLICE_OUTCOME_LOOP, ANY, path_to, data},
-    {"data to a group, looped", TMAVOLICE_OUTCOME_LOOP, ANY, to_a_group, data},
-    {"Activate, refreshing", TMAVOLICE_OUTCOME_REPLY, TIMED, path_to, activate},
-    {"Activate, opening", TMAVOLICE_OUTCOME_REPLY, TIMED, from_another_tester, activate},
-    {"Deactivate", TMAVOLICE_OUTCOME_REPLY, LISTED, path_to, deactivate},
-    {"State", TMAVOLICE_OUTCOME_REPLY, LISTED, path_to, state},
-    {"State with TLVs without a value", TMAVOLICE_OUTCOME_REPLY, LISTED, path_to, state_of_many_tlvs},
-    {"State to all up MPs", TMAVOLICE_OUTCOME_REPLY, LISTED, to_up_mps, state},
-    {"State to all down MPs", TMAVOLICE_OUTCOME_REPLY, LISTED, to_down_mps, state},
-    {"State to all MIPs", TMAVOLICE_OUTCOME_REPLY_AND_FORWARD, LISTED, to_mips, state},
-    {"State to a prohibited flow, dropped", TMAVOLICE_OUTCOME_DROP, LISTED, to_a_prohibited_flow, state},
-    {"a request of a reserved type", TMAVOLICE_OUTCOME_REPLY, LISTED, path_to, reserved},
-    {"a malformed request", TMAVOLICE_OUTCOME_REPLY, EMPTY, path_to, malformed},
+    {"data of no flow, forwarded", TMAVOLICE_FORWARD, ANY, of_no_flow, data},
+    {"data of another tester, forwarded", TMAVOLICE_FORWARD, ANY, from_another_tester, data},
+    {"data from the other side, dropped", TMAVOLICE_DROP, ANY, from_the_other_side, data},
+    {"data, looped", TMAVOLICE_LOOP, ANY, path_to, data},
+    {"data to a group, looped", TMAVOLICE_LOOP, ANY, to_a_group, data},
+    {"Activate, refreshing", TMAVOLICE_REPLY, TIMED, path_to, activate},
+    {"Activate, opening", TMAVOLICE_REPLY, TIMED, from_another_tester, activate},
+    {"Deactivate", TMAVOLICE_REPLY, LISTED, path_to, deactivate},
+    {"State", TMAVOLICE_REPLY, LISTED, path_to, state},
+    {"State with TLVs without a value", TMAVOLICE_REPLY, LISTED, path_to, state_of_many_tlvs},
+    {"State to all up MPs", TMAVOLICE_REPLY, LISTED, to_up_mps, state},
+    {"State to all down MPs", TMAVOLICE_REPLY, LISTED, to_down_mps, state},
+    {"State to all MIPs", TMAVOLICE_REPLY_AND_FORWARD, LISTED, to_mips, state},
+    {"State to a prohibited flow, dropped", TMAVOLICE_DROP, LISTED, to_a_prohibited_flow, state},
+    {"a request of a reserved type", TMAVOLICE_REPLY, LISTED, path_to, reserved},
+    {"a malformed request", TMAVOLICE_REPLY, EMPTY, path_to, malformed},
 };
 
 const int count_of_kinds = sizeof kinds / sizeof kinds[0];

@@ -17,14 +17,14 @@ struct making {
 };
 
 static const struct making makings[] = {
-    {"the full plan", TMAVOLICE_OUTCOME_DONE, 0, 4096, 1, ""},
-    {"the full plan and an image too short", TMAVOLICE_OUTCOME_REFUSED, TMAVOLICE_REFUSAL_NO_VALID_IMAGE, 4095, 1, ""},
-    {"a line that is no record", TMAVOLICE_OUTCOME_PLAN_FAULT, TMAVOLICE_FAULT_UNREADABLE, 4096, 1, "port\n"},
-    {"a number out of range", TMAVOLICE_OUTCOME_PLAN_FAULT, TMAVOLICE_FAULT_OUT_OF_RANGE, 4096, 1, "port\t9\tuni\t0200000000aa\n"},
-    {"a port without a name", TMAVOLICE_OUTCOME_PLAN_FAULT, TMAVOLICE_FAULT_UNNAMED, 4096, 0, "flow\t1\t1\tu\t0\n"},
-    {"a port repeated", TMAVOLICE_OUTCOME_PLAN_FAULT, TMAVOLICE_FAULT_REPEATED, 4096, 1, "port\t8\tuni\t0200000000aa\n"},
-    {"an empty text", TMAVOLICE_OUTCOME_PLAN_FAULT, TMAVOLICE_FAULT_NO_PORT, 4096, 0, ""},
-    {"a 33rd MP", TMAVOLICE_OUTCOME_PLAN_FAULT, TMAVOLICE_FAULT_TOO_MANY_MPS, 4096, 1, "mp\t1\tup\t0\n"},
+    {"the full plan", TMAVOLICE_DONE, 0, 4096, 1, ""},
+    {"the full plan and an image too short", TMAVOLICE_REFUSED, TMAVOLICE_NO_VALID_IMAGE, 4095, 1, ""},
+    {"a line that is no record", TMAVOLICE_PLAN_FAULT, TMAVOLICE_UNREADABLE, 4096, 1, "port\n"},
+    {"a number out of range", TMAVOLICE_PLAN_FAULT, TMAVOLICE_OUT_OF_RANGE, 4096, 1, "port\t9\tuni\t0200000000aa\n"},
+    {"a port without a name", TMAVOLICE_PLAN_FAULT, TMAVOLICE_UNNAMED, 4096, 0, "flow\t1\t1\tu\t0\n"},
+    {"a port repeated", TMAVOLICE_PLAN_FAULT, TMAVOLICE_REPEATED, 4096, 1, "port\t8\tuni\t0200000000aa\n"},
+    {"an empty text", TMAVOLICE_PLAN_FAULT, TMAVOLICE_NO_PORT, 4096, 0, ""},
+    {"a 33rd MP", TMAVOLICE_PLAN_FAULT, TMAVOLICE_TOO_MANY_MPS, 4096, 1, "mp\t1\tup\t0\n"},
 };
 
 static uint8_t image[4096];
@@ -62,5 +62,5 @@ int tell_makings(void (*tell)(const char *name, int depth)) {
         right &= is_so(m->name, answer, m->outcome, m->why);
     }
     tell("a text cut at every length", deepest_of_lengths(&answer));
-    return right & is_so("a text too long", answer, TMAVOLICE_OUTCOME_PLAN_FAULT, TMAVOLICE_FAULT_TEXT_TOO_LONG);
+    return right & is_so("a text too long", answer, TMAVOLICE_PLAN_FAULT, TMAVOLICE_TEXT_TOO_LONG);
 }

@@ -15,7 +15,7 @@ struct path path_to(const uint8_t *image, int row);
 /* Opens a session of 86,400 seconds at the end of that path. */
 void open_on(uint8_t *image, int row);
 
-/* BENCH-13's plan with its one session, of 86,400 seconds. */
+/* The paper's bench plan with its one session, of 86,400 seconds. */
 void bench_unit(uint8_t *image);
 
 /* 8 ports, 32 flows with an MP each, and 16 sessions, the last of them on the last flow. */

@@ -77,7 +77,7 @@ static void tell_frames(void) {
         for (int tag = 0; tag < TAGS; tag++)
             deepest = larger(deepest, deepest_of_lengths(&ours, &kinds[i], start, rows[tag]));
         tell("frame", kinds[i].name, deepest, LIMIT);
-        if (kinds[i].outcome == TMAVOLICE_OUTCOME_LOOP)
+        if (kinds[i].outcome == TMAVOLICE_LOOP)
             insist_on_paint(&kinds[i], start, rows[0], deepest);
     }
 }

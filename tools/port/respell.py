@@ -40,7 +40,7 @@ def renames():
     """Old name: new name, of every definition and lemma that has a hump or a dash."""
     where = collections.defaultdict(set)
     for path in files():
-        if path.endswith(".rt") or os.path.basename(path) in WALKS:
+        if path.endswith(".rt") or (os.path.basename(path) in WALKS and path.count("/") > 3):
             continue
         with open(path) as f:
             for line in f:

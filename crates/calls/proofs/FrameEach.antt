@@ -18,7 +18,7 @@ use Rattle.machine.specs.declared.Fate.{Fate}
 use Rattle.machine.specs.declared.Fate.TheVariants.{Forward, Drop, Loop}
 use Rattle.machine.specs.Table.{Event, rqst_activate, rqst_deactivate, rqst_state, action_of}
 use Rattle.machine.specs.Machine.{activity, condition_of, is_open, decided}
-use Rattle.machine.proofs.Answers.{activate-sent, deactivate-sent, state-sent}
+use Rattle.machine.proofs.Answers.{activate_sent, deactivate_sent, state_sent}
 use Rattle.plan.specs.Plan.{port_numbered, in_plan}
 use Rattle.state.specs.State.{State, is_allowed, full_for}
 use Rattle.calls.specs.declared.Answer.TheVariants.{Forwarded, Dropped, Looped}
@@ -78,11 +78,11 @@ module _ (P : Sent → Type 0) (forwarded : (s : State) → P (leaves Forwarded 
     answer_each may whom Malformed = replies s a whom 1 _ refl
     answer_each may whom Reserved = replies s a whom 10 _ refl
     answer_each may whom (Activate n) =
-        replies _ a whom _ _ (machine_code s a may rqst_activate n (activate-sent (full_for a.flow s) n (new_session a) (own s a)))
+        replies _ a whom _ _ (machine_code s a may rqst_activate n (activate_sent (full_for a.flow s) n (new_session a) (own s a)))
     answer_each may whom Deactivate =
-        replies _ a whom _ _ (machine_code s a may rqst_deactivate 0 (deactivate-sent (full_for a.flow s) 0 (new_session a) (own s a)))
+        replies _ a whom _ _ (machine_code s a may rqst_deactivate 0 (deactivate_sent (full_for a.flow s) 0 (new_session a) (own s a)))
     answer_each may whom StateRequest =
-        replies _ a whom _ _ (machine_code s a may rqst_state 0 (state-sent (full_for a.flow s) 0 (new_session a) (own s a)))
+        replies _ a whom _ _ (machine_code s a may rqst_state 0 (state_sent (full_for a.flow s) 0 (new_session a) (own s a)))
 
     stays_each : (b : Bool) → P (leaves (cond b Forwarded Dropped) s)
     stays_each true = forwarded s

@@ -2,9 +2,8 @@
 use mathlib.Core.Path.{◌≡◌, refl}
 use mathlib.Core.Bool.{Bool, true, false, cond, ◌&&◌}
 use mathlib.Core.List.{List, [], ◌∷◌}
-use Prim.Native.Nat.{ℕ, ◌+◌, ◌≤◌}
+use Prim.Native.Nat.{ℕ, ◌≤◌}
 use lib.ListN.{length, drop}
-use Rattle.octets.specs.Octets.{number}
 use Rattle.octets.proofs.Same.{both_true}
 use Rattle.octets.proofs.Laws.{Octets, octets_drop}
 use Rattle.octets.proofs.Round.{number_fits}

@@ -8,7 +8,7 @@ use Rattle.machine.specs.Table.{Event, active, mgmt_allow, mgmt_prohibit, action
 use Rattle.machine.specs.Machine.{condition_of}
 use Rattle.machine.specs.Management.{managed_by, allowed_after}
 use Rattle.machine.specs.Time.{elapsed, jumped, ticked}
-use Rattle.plan.specs.Plan.{Plan, port_numbered, flow_numbered, in_plan}
+use Rattle.plan.specs.Plan.{port_numbered, flow_numbered, in_plan}
 use Rattle.plan.specs.PlanText.{Reading, fault, planned, plan_in}
 use Rattle.state.specs.State.{State, with_clock, with_allowed, with_sessions, made, is_allowed, notice_due}
 use Rattle.state.specs.Image.{image, state_of, ok_image}

@@ -1,5 +1,6 @@
 // The seven calls as definitions: what each answers, and the number that a host gets for an answer.
 #![tactic(auto)]
+
 ghost use Rattle.std.specs.Prelude.{◌≡◌};
 ghost use Rattle.calls.specs.Answer.{number_of, packed};
 

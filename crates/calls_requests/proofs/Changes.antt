@@ -15,7 +15,7 @@ use Rattle.machine.specs.declared.Machine.TheVariants.{Inactive, Active}
 use Rattle.machine.specs.declared.Change.{Change}
 use Rattle.machine.specs.declared.Change.TheVariants.{Same, Opened, Restarted, Closed}
 use Rattle.machine.specs.Table.{Event, admit, report, restart, already, close}
-use Rattle.machine.specs.Machine.{key, key_of, is_open, lasting, good_seconds, answered, admitted, same_mp, refreshed, restarted}
+use Rattle.machine.specs.Machine.{key_of, is_open, lasting, good_seconds, answered, admitted, same_mp, refreshed, restarted}
 use Rattle.machine.specs.Machine.{closed, decided, after}
 use Rattle.state.specs.State.{State, with_sessions, valid, full_for, notice_due}
 use Rattle.state.proofs.RowLaws.{SessionFits}

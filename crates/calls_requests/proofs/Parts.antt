@@ -1,16 +1,13 @@
 -- The number of a tag's octets, gathered octet by octet.
 use mathlib.Core.Path.{◌≡◌, ◌∙◌}
 use mathlib.Core.List.{List}
-use Prim.Native.Nat.{ℕ, ◌+◌, ◌-◌, ◌*◌, ◌^◌, ◌<◌, ◌≤◌}
+use Prim.Native.Nat.{ℕ, ◌+◌, ◌*◌, ◌^◌, ◌<◌, ◌≤◌}
 use native.Mathlib.Nat.{pow-le-pow_right, pow-suc}
 use native.Mathlib.Numerals.{add-one}
 use native.Mathlib.Omega.{arith}
-use lib.ListN.{length, take, drop, get_or, length-drop}
-use lib.Seq.{take_all}
+use lib.ListN.{drop, get_or}
 use Rattle.octets.specs.Octets.{number}
-use Rattle.octets.proofs.Laws.{Octets, octets_drop, number_parts, number_1}
-use Rattle.octets.proofs.Round.{number_fits}
-use Rattle.codec.specs.FrameSet.{source, pdu_of}
+use Rattle.octets.proofs.Laws.{number_parts, number_1}
 
 -- before octet i, n is the number of those that were met
 pub record Gathering (l : List ℕ) (n i : ℕ) : Type 0 where

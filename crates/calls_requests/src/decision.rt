@@ -76,7 +76,7 @@ fn full_at(b: &[u8], action: u8) -> u8
 // What becomes of a request on an allowed flow, and with which code.
 pub fn decides(b: &[u8], a: Arrival, frame: &[u8], m: Machine, request: Request) -> Decided
     requires known { Known b.now a frame.now }
-    requires b_value { (is_allowed a.flow (state_of b.now) ≡ true)
+    requires allowed { (is_allowed a.flow (state_of b.now) ≡ true)
         × ((m ≡ own (state_of b.now) (arrived_in b.now a frame.now)) × (soam a.taglen frame.now ≡ true)) }
     ensures { result ≡ decision (state_of b.now) (arrived_in b.now a frame.now) request }
 {
@@ -94,7 +94,7 @@ pub fn decides(b: &[u8], a: Arrival, frame: &[u8], m: Machine, request: Request)
 
 // Writes the change of the session of a key, which has this row, or 0 where it has none yet.
 pub fn change_session(b: &mut [u8], key: u64, row: usize, change: Change)
-    requires b_value { (ok_image b.old ≡ true) × (row ≡ session_at key b.old) }
+    requires valid { (ok_image b.old ≡ true) × (row ≡ session_at key b.old) }
     requires placed { (x : Session) → after change Inactive ≡ Active x → Placed b.old row x }
     ensures { b.new ≡ image (changed key change (state_of b.old)) }
 {

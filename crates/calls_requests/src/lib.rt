@@ -1,5 +1,6 @@
 // A request for an MP, answered on the lent image.
 #![tactic(auto)]
+
 use codec::Heading;
 use plan::Port;
 

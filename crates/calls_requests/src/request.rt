@@ -31,7 +31,7 @@ fn goes_on(a: Arrival, whom: Addressed) -> bool
 // The request read and answered, on an allowed flow: the change is written, and the reply says how the machine is then.
 fn answers(b: &mut [u8], a: Arrival, frame: &[u8], out: &mut [u8], whom: Addressed) -> Answer
     requires known { (Known b.old a frame.now) × (2008 ≤ length out.old) }
-    requires b_value { (is_allowed a.flow (state_of b.old) ≡ true)
+    requires allowed { (is_allowed a.flow (state_of b.old) ≡ true)
         × ((26 + a.taglen ≤ length frame.now) × (soam a.taglen frame.now ≡ true)) }
     ensures { Served (answers (state_of b.old) (arrived_in b.old a frame.now) whom
         (request_of whom (destination frame.now) (pdu_of a.taglen frame.now)))

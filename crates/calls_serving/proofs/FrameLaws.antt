@@ -9,7 +9,6 @@ use lib.Dec.{eqb}
 use borrow.Author.Tests.{le-leb, lt-leb}
 use Rattle.octets.specs.Lists.{within, every, first}
 use Rattle.octets.proofs.Same.{both_true}
-use Rattle.octets.proofs.Cases.{by_eq}
 use Rattle.octets.proofs.ListLaws.{within_high}
 use Rattle.codec.specs.declared.FrameSet.{FrameSet}
 use Rattle.codec.specs.declared.Place.{Place}

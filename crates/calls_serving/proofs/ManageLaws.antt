@@ -8,7 +8,7 @@ use Rattle.octets.specs.Octets.{low_octets, splice}
 use Rattle.machine.specs.declared.Session.{Session}
 use Rattle.machine.specs.declared.Machine.TheVariants.{Inactive}
 use Rattle.machine.specs.declared.Sweep.TheVariants.{Ticked, Managed}
-use Rattle.machine.specs.Table.{Event, active, action_of, action_at, event_at, condition_number, condition_at}
+use Rattle.machine.specs.Table.{Event, action_of, action_at, event_at, condition_number, condition_at}
 use Rattle.machine.specs.Machine.{activity, condition_of}
 use Rattle.machine.specs.Management.{managed_by, allowed_after}
 use Rattle.machine.specs.Time.{elapsed, ticked, swept}

@@ -2,7 +2,7 @@
 use mathlib.Core.Path.{◌≡◌, refl, sym, ap, ◌∙◌}
 use mathlib.Core.Bool.{true}
 use mathlib.Core.List.{List, [], ◌∷◌, ◌++◌}
-use Prim.Native.Nat.{ℕ, zero, suc, ◌+◌, ◌-◌, ◌*◌, ◌^◌, ◌<◌, ◌≤◌}
+use Prim.Native.Nat.{ℕ, zero, suc, ◌+◌, ◌-◌, ◌^◌, ◌<◌, ◌≤◌}
 use native.Mathlib.Nat.{zero-add, suc-add}
 use native.Mathlib.Omega.{arith}
 use lib.ListN.{length, take, drop, length-append}
@@ -16,7 +16,7 @@ use Rattle.codec.specs.FrameSet.{oam_type}
 use Rattle.codec_replies.specs.Reply.{active_flags, flags_by, flags, header, carries_timer, timer_part, reply_pdu, reply_frame}
 use Rattle.machine.specs.declared.Session.{Session}
 use Rattle.machine.specs.declared.Machine.TheVariants.{Inactive}
-use Rattle.machine.specs.Machine.{key, key_of, status_of}
+use Rattle.machine.specs.Machine.{key_of, status_of}
 use Rattle.plan.specs.declared.Port.{Port}
 use Rattle.plan.specs.Plan.{port_numbered}
 use Rattle.state.specs.State.{State, first_owed}

@@ -1,6 +1,6 @@
 -- The session that is first owed a notice, in a valid state: it is one of the sessions, and fits a notice.
 use mathlib.Core.Path.{◌≡◌, sym, ap, ◌∙◌}
-use mathlib.Core.Bool.{Bool, true, false, not, ◌&&◌, true≢false}
+use mathlib.Core.Bool.{Bool, true, not, ◌&&◌, true≢false}
 use mathlib.Core.List.{List}
 use Prim.Native.Nat.{ℕ, ◌^◌, ◌<◌, ◌≤◌}
 use native.Mathlib.Omega.{arith}
@@ -22,7 +22,7 @@ use Rattle.state.specs.Rows.{session_at, owed_at}
 use Rattle.state.proofs.Rules.{Valid, valid_parts}
 use Rattle.state.proofs.Fits.{good_flow_lem, good_fits, tag_fits_lem}
 use Rattle.state.proofs.ImageLaws.{ok_valid}
-use Rattle.state.proofs.Answers.{owed-found, notice-found}
+use Rattle.state.proofs.Answers.{owed_found, notice_found}
 use Rattle.state.proofs.OwedRow.{owed_such, owed_keyed}
 use Rattle.calls_serving.specs.Preconditions.{NoticeKnown}
 
@@ -77,12 +77,12 @@ owed_fits {l} k e =
 module _ {l out : List ℕ} (k : NoticeKnown l out) {row : ℕ} (e : row ≡ owed_at l) where
   there : row ≡ 0 → ⊥
   there z =
-      let due : not (eqb row 0) ≡ true = notice-found l e ∙ k.due in
+      let due : not (eqb row 0) ≡ true = notice_found l e ∙ k.due in
       true≢false (sym due ∙ rw (eq-eqb row 0 z))
 
   module _ {x : Session} (read : x ≡ session_in (drop row l)) where
     pub owed_is : x ≡ first_owed (state_of l)
-    owed_is = read ∙ (owed-found l e).something there
+    owed_is = read ∙ (owed_found l e).something there
 
     pub owed_at_lem : row ≡ session_at (key_of x) l
     owed_at_lem = e ∙ owed_keyed l (ok_valid l k.ok) k.due ∙ ap (λ (y : Session). session_at (key_of y) l) (sym owed_is)

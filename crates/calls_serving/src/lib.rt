@@ -1,5 +1,6 @@
 // Each call once it is not refused, on a valid state's image.
 #![tactic(auto)]
+
 mod data;
 mod frame;
 mod management;

@@ -7,7 +7,7 @@ use Rattle.octets.specs.Octets.{number}
 use Rattle.octets.specs.Lists.{within}
 use Rattle.octets.specs.Text.{hex}
 use Rattle.codec.specs.FrameSet.{uni, enni, untagged, c_tagged, s_tagged, external, cen}
-use Rattle.codec.specs.FrameSet.{source, group, type_behind, vid_of, set_of, tagged, by_tag, tag_fits, Member, member, only, sets_of, soam, pdu_of}
+use Rattle.codec.specs.FrameSet.{source, group, type_behind, vid_of, set_of, tagged, by_tag, tag_fits, Member, only, sets_of, soam, pdu_of}
 use Rattle.codec.specs.Request.{octet, opcode_of, is_request}
 
 numbers_of_port_kinds : uni ∷ enni ∷ [] ≡ 1 ∷ 2 ∷ []

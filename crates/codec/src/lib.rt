@@ -1,5 +1,6 @@
 // The message layer, read: a frame once, its sets, the PDU of a request.
 #![tactic(auto)]
+
 mod frame;
 mod pdu;
 mod requests;

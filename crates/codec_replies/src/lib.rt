@@ -1,5 +1,6 @@
 // The message layer, written: replies and loops.
 #![tactic(auto)]
+
 use codec::Status;
 
 mod answer;

@@ -1,5 +1,5 @@
 -- Laws of lists whose keys ascend: the first element that passes a test, and what is looked up by a key.
-use mathlib.Core.Path.{◌≡◌, refl, sym, ◌∙◌}
+use mathlib.Core.Path.{◌≡◌, refl, ap, sym, ◌∙◌}
 use mathlib.Core.Bool.{Bool, true, false, cond, false≢true}
 use mathlib.Core.List.{List, [], ◌∷◌, map}
 use Prim.Native.Nat.{ℕ, ◌<◌}
@@ -80,7 +80,10 @@ module _ {A B : Type 0} (key : A → ℕ) (hit : A → B) (none : B) where
       (λ t.
       let g : some test l ≡ true = rw t at h in
       let above : key x < key (first test other l) = first_above key test other (key x) l p.1 g in
-      rw (t, ne_eqb (key x) (key (first test other l)) (λ z. omega arith)) (look_first test other (key x) l p.1 g))
+      let later : first test other (x ∷ l) ≡ first test other l = rw t in
+      let past : look (key (first test other l)) (x ∷ l) ≡ look (key (first test other l)) l =
+      rw (ne_eqb (key x) (key (first test other l)) (λ z. omega arith)) in
+      ap (λ y. look (key y) (x ∷ l)) later ∙ past ∙ look_first test other (key x) l p.1 g ∙ ap hit (sym later))
 
 -- what is looked up, told by a function
 pub look_told : {A B C : Type 0} (key : A → ℕ) (hit : A → B) (none : B) (tell : B → C) (told : A → C) (empty : C)

@@ -1,5 +1,5 @@
 -- The elements that pass a test, by their keys, in a list whose keys ascend: how many there are, and the first.
-use mathlib.Core.Path.{◌≡◌, refl, sym, ◌∙◌}
+use mathlib.Core.Path.{◌≡◌, refl, ap, sym, ◌∙◌}
 use mathlib.Core.Bool.{Bool, true, false}
 use mathlib.Core.List.{List, [], ◌∷◌}
 use Prim.Native.Nat.{ℕ, ◌<◌}
@@ -59,5 +59,8 @@ module _ {A : Type 0} (key : A → ℕ) (test : A → Bool) where
       ∙ rw (t, rest) (omega arith))
       (λ t.
       counted_same (λ k. passes_at k (x ∷ l)) (λ k. passes_at k l) n
-      (λ k low. by_eq k (key x) (λ e same. rw same (here ∙ t ∙ sym gone)) (λ e other. others k other))
+      (λ k low.
+      by_eq k (key x)
+      (λ e same. ap (λ j. passes_at j (x ∷ l)) same ∙ here ∙ t ∙ sym gone ∙ ap (λ j. passes_at j l) (sym same))
+      (λ e other. others k other))
       ∙ rw (t, rest) (omega arith))

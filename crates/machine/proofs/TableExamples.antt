@@ -1,5 +1,5 @@
 -- The table of MEF 46 7.1.5: its rows and columns, and what its management columns make of a flow, by computation.
-use Rattle.std.proofs.Common.{◌≡◌, ℕ, Bool, true, false, List, [], ◌∷◌, map, refl}
+use Rattle.std.proofs.Common.{◌≡◌, Bool, true, false, List, [], ◌∷◌, map, refl}
 use Rattle.machine.specs.Table.{Condition, prohibited, inactive, active, condition_number}
 use Rattle.machine.specs.Table.{rqst_activate, rqst_deactivate, rqst_state, ingress_data, egress_data}
 use Rattle.machine.specs.Table.{mgmt_allow, mgmt_prohibit, timer_expiration, event_number, action_of}

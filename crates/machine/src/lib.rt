@@ -1,5 +1,6 @@
 // The machine layer: the table of twenty-four entries, one session's step, time. By value only.
 #![tactic(auto)]
+
 mod actions;
 mod codes;
 mod events;

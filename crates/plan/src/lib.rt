@@ -1,5 +1,6 @@
 // The plan: its records, and rules of it that several rooms test.
 #![tactic(auto)]
+
 mod rules;
 mod words;
 
@@ -30,7 +31,7 @@ pub struct Flow {
 
 // A plan by value: ports in ascending number, flows in ascending port and frame set. A row with number 0 is empty, and so is every row
 // behind it.
-#[derive(Drop)]
+#[derive(Clone, Copy)]
 pub struct Records {
     pub ports: [Port; PORTS],
     pub flows: [Flow; FLOWS],

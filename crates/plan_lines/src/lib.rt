@@ -1,5 +1,6 @@
 // One line of a plan's text, read.
 #![tactic(auto)]
+
 mod fields;
 mod lines;
 

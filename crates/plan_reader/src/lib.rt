@@ -1,5 +1,6 @@
 // A plan's text read into a plan by value.
 #![tactic(auto)]
+
 use plan::Records;
 
 mod additions;

@@ -1,5 +1,6 @@
 // A plan's records by value, in arrays: what they hold, and a record put in its place.
 #![tactic(auto)]
+
 mod records;
 mod rows;
 

@@ -23,9 +23,9 @@ use Rattle.state.specs.Rows.{port_at, flow_at, session_at, owed_at, flow_of_row,
 use Rattle.state.proofs.FoundLaws.{Found, found, found_first}
 use Rattle.state.proofs.RowLaws.{flow_key_in, session_key_in}
 
-or-cond : (p q : Bool) → (p || q) ≡ cond p true q
-or-cond true q = refl
-or-cond false q = refl
+or_cond : (p q : Bool) → (p || q) ≡ cond p true q
+or_cond true q = refl
+or_cond false q = refl
 
 module _ (b : List ℕ) where
   -- the port of a number
@@ -48,23 +48,23 @@ module _ (b : List ℕ) where
 
   -- the machine of a session's row
   module _ {r : ℕ} where
-    pub row-none : r ≡ 0 → Inactive ≡ machine_of_row r b
+    pub row_none : r ≡ 0 → Inactive ≡ machine_of_row r b
     unfolding machine_of_row
-    row-none z = simp (eq-eqb r 0 z)
+    row_none z = simp (eq-eqb r 0 z)
 
     module _ {x : Session} (there : r ≡ 0 → ⊥) (read : x ≡ session_in (drop r b)) where
-      pub row-owed : (x.notice ≡ 0 → ⊥) → Inactive ≡ machine_of_row r b
+      pub row_owed : (x.notice ≡ 0 → ⊥) → Inactive ≡ machine_of_row r b
       unfolding machine_of_row is_open
-      row-owed h = rw (ne_eqb r 0 there, ← read, ne_eqb x.notice 0 h)
+      row_owed h = rw (ne_eqb r 0 there, ← read, ne_eqb x.notice 0 h)
 
       pub row_open : x.notice ≡ 0 → Active x ≡ machine_of_row r b
       unfolding machine_of_row is_open
       row_open h = rw (ne_eqb r 0 there, ← read, eq-eqb x.notice 0 h)
 
   -- the machine of a key
-  pub machine-found : (key : ℕ) {r : ℕ} → r ≡ session_at key b → machine_of_row r b ≡ machine_of key (state_of b).sessions
+  pub machine_found : (key : ℕ) {r : ℕ} → r ≡ session_at key b → machine_of_row r b ≡ machine_of key (state_of b).sessions
   unfolding session_at machine_of_row state_of machine_of
-  machine-found key {r} e =
+  machine_found key {r} e =
       let hit : Session → Machine = λ x. cond (is_open x) (Active x) Inactive in
       let f : Found r Inactive (hit (session_in (drop r b))) (machine_of key (state_of b).sessions)
       = found session_in (λ l. eqb (low_number 8 l) key) (λ x. eqb (key_of x) key) hit (machine_of key) 32
@@ -72,17 +72,17 @@ module _ (b : List ℕ) where
       by_eq r 0 (λ t z. simp t (f.nothing z)) (λ t z. simp t (f.something z))
 
   -- the first session that is owed a notice, and whether one is
-  pub owed-found : {r : ℕ} → r ≡ owed_at b → Found r no_session (session_in (drop r b)) (first_owed (state_of b))
+  pub owed_found : {r : ℕ} → r ≡ owed_at b → Found r no_session (session_in (drop r b)) (first_owed (state_of b))
   unfolding owed_at session_in state_of first_owed is_open
-  owed-found e =
+  owed_found e =
       let owed : Session → Bool = λ x. not (is_open x) in
       found_first session_in (λ l. not (eqb (get_or l 12 0) 0)) owed no_session 32 (λ l. refl) 16 1536 b (omega arith) e
 
-  pub notice-found : {r : ℕ} → r ≡ owed_at b → not (eqb r 0) ≡ notice_due (state_of b)
+  pub notice_found : {r : ℕ} → r ≡ owed_at b → not (eqb r 0) ≡ notice_due (state_of b)
   unfolding owed_at session_in state_of notice_due is_open some
-  notice-found {r} e =
+  notice_found {r} e =
       let owed : Session → Bool = λ x. not (is_open x) in
       let f : Found r false true (notice_due (state_of b))
       = found session_in (λ l. not (eqb (get_or l 12 0) 0)) owed (λ x. true) (some owed) 32
-      (λ l. refl) (λ x xs. or-cond (owed x) (some owed xs)) 16 1536 b (omega arith) e in
+      (λ l. refl) (λ x xs. or_cond (owed x) (some owed xs)) 16 1536 b (omega arith) e in
       by_eq r 0 (λ t z. simp t (f.nothing z)) (λ t z. simp t (f.something z))

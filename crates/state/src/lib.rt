@@ -1,5 +1,6 @@
 // The state's one image, on the lent octets: where things stand in it, and what it says.
 #![tactic(auto)]
+
 mod fields;
 mod layout;
 mod records;

@@ -1,5 +1,6 @@
 // An entry for the host's measurements and tests: tests an image, and finds a flow, its MP and a session in it.
 #![tactic(auto)]
+
 ghost use Rattle.std.specs.Prelude.{◌≡◌, ◌+◌, ◌*◌, ◌<◌, ◌^◌, length};
 ghost use Rattle.state.specs.Image.{state_of};
 ghost use Rattle.state_probe.specs.Probe.{session_part, machine_at, looked};

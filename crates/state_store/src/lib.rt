@@ -1,5 +1,6 @@
 // The state's image rewritten in place, on the lent octets.
 #![tactic(auto)]
+
 mod head;
 mod row;
 mod session;

@@ -1,5 +1,6 @@
 // The tables of ports and flows of an image, and the octets beside them: are they right?
 #![tactic(auto)]
+
 mod flows;
 mod marks;
 mod ports;

@@ -110,7 +110,7 @@ module _ (l : List ℕ) (o : Octets l) (long : length l ≡ 4096) where
       rw (flows_law l (omega arith) ports t ot (part_long l o long 256 1024 (omega arith)), flows_read l o long)
       (and_when (good_flows && (pl && t2)) behind_flows)
 
-  pub test-law
+  pub test_law
       : ((all_zero (take 28 (drop 4 l))
       && all_zero (take 32 (drop 96 l))
       && all_zero (take 256 (drop 1280 l)))
@@ -121,7 +121,7 @@ module _ (l : List ℕ) (o : Octets l) (long : length l ≡ 4096) where
       && ok_sessions l (take 2560 (drop 1536 l)))
       ≡ ok_image l
   unfolding keeps_rules so_far
-  test-law =
+  test_law =
       let z1 : Bool = all_zero (take 28 (drop 4 l)) in
       let z2 : Bool = all_zero (take 32 (drop 96 l)) in
       let z3 : Bool = all_zero (take 256 (drop 1280 l)) in

@@ -1,5 +1,6 @@
 // Is this a valid state's image? One pass over the lent octets.
 #![tactic(auto)]
+
 mod image;
 mod sessions;
 

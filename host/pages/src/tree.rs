@@ -6,8 +6,8 @@ use std::{fs, io};
 
 use crate::page::{Block, Page};
 
-/// Folders that are made, and no part of the tree.
-const LEFT_OUT: [&str; 2] = ["target", ".git"];
+/// Folders that are made, and no part of the tree; `out` is what rt keeps of a crate.
+const LEFT_OUT: [&str; 3] = ["target", "out", ".git"];
 
 pub struct Tree {
     files: BTreeMap<String, String>,

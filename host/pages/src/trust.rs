@@ -58,10 +58,11 @@ pub fn complete(tree: &Tree) -> Vec<String> {
     missing.chain(listed.difference(&reached).map(|file| format!("{TRUST}:1: no entry rests on {file}"))).collect()
 }
 
-/// The files that a file takes definitions from, as `use Rattle·calls.specs.Frame.{pdu}`. Types of the code are declared there.
+/// The files of this tree that a file takes definitions from, as `use Rattle.calls.specs.Frame.{pdu}`. Types of the code are declared
+/// there. What is of the kit, as Rattle.std, is no file of the tree.
 fn uses(tree: &Tree, file: &str) -> Vec<String> {
-    let lines = tree.text(file).unwrap_or("").lines().filter_map(|line| line.split_once("use Rattle·"));
+    let lines = tree.text(file).unwrap_or("").lines().filter_map(|line| line.split_once("use Rattle."));
     let paths = lines.filter_map(|(_, path)| path.split_once(".{")?.0.split_once(".specs."));
-    let own = paths.filter(|(_, name)| !name.starts_with("declared."));
-    own.map(|(krate, name)| format!("crates/{}/specs/{name}.antt", krate.trim_end_matches("·specs"))).collect()
+    let own = paths.filter(|(krate, name)| !name.starts_with("declared.") && tree.is_folder(&format!("crates/{krate}")));
+    own.map(|(krate, name)| format!("crates/{krate}/specs/{}.antt", name.replace('.', "/"))).collect()
 }

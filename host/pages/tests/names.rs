@@ -8,19 +8,19 @@ const CODE: &str =
     "pub const MOST: u8 = 3;\n\npub fn by_type(t: u8) -> u8\n    requires { y }\n    ensures { x }\n{\n    t\n}\n\n\
                     fn bare(t: u8) -> u8 {\n    t\n}\n\nfn asks(t: u8)\n    requires { x }\n{\n    t\n}\n\n\
                     pub extern \"C\" fn entry(\n    t: u8,\n)\n    ensures { x }\n{\n    t\n}\n";
-const SPEC: &str = "-- a type\nunfoldable pub byType : N → N\nbyType n = other n\n\
+const SPEC: &str = "-- a type\nunfoldable pub typed_by : N → N\ntyped_by n = other n\n\
                     pub data In (x : N) : List N → Type 0 where\n  here : In 1\npub hex : (t : N) → N\n";
 const TREE: [(&str, &str); 6] = [
     ("crates/codec/src/pdu.rt", CODE),
     ("crates/codec/specs/Request.antt", SPEC),
-    ("crates/codec/proofs/Examples/Lines.antt", "  pub each-line : N\n"),
+    ("crates/codec/proofs/Examples/Lines.antt", "  pub each_line : N\n"),
     ("crates/codec/proofs/Mps.antt", "abbrev levels : N\ngroups : N\n"),
-    ("crates/calls_serving/specs/Frame.antt", "unfoldable pub forMp : N\npub byType : N\n"),
+    ("crates/calls_serving/specs/Frame.antt", "unfoldable pub for_mp : N\npub typed_by : N\n"),
     ("crates/calls_serving/src/lib.rt", "pub enum Kind {\n    A,\n}\n"),
 ];
 /// A name, and a place where it is.
 const FORMS: [(&str, &str); 12] = [
-    ("byType", "codec"),
+    ("typed_by", "codec"),
     ("Lines", "codec"),
     ("codec", "crates/codec"),
     ("Kind", "calls_serving"),
@@ -28,10 +28,10 @@ const FORMS: [(&str, &str); 12] = [
     ("In", "codec Request"),
     ("here", "codec, Request"),
     ("groups", "codec, proofs/Mps"),
-    ("each-line", "codec, proofs/Examples/Lines"),
+    ("each_line", "codec, proofs/Examples/Lines"),
     ("by_type", "codec, src/pdu.rt"),
     ("entry", "codec src/pdu.rt"),
-    ("byType", "calls_serving, Frame; codec, Request"),
+    ("typed_by", "calls_serving, Frame; codec, Request"),
 ];
 
 /// What is found on a page.
@@ -59,10 +59,10 @@ fn every_form_is_read() {
 #[test]
 fn runs_broken_lines_and_applications_are_read() {
     let page =
-        "`byType`, `In` and `here` (codec, Request), `levels`,\n`groups` (codec, proofs/Mps), `MOST`, by `by_type`\n\
-                (codec src/pdu.rt), `hex \"80\"` (codec, Request) and `each-line` (codec, Examples/Lines)\n";
+        "`typed_by`, `In` and `here` (codec, Request), `levels`,\n`groups` (codec, proofs/Mps), `MOST`, by `by_type`\n\
+                (codec src/pdu.rt), `hex \"80\"` (codec, Request) and `each_line` (codec, Examples/Lines)\n";
     none(found(page));
-    for name in ["byType", "In", "here", "levels", "groups", "MOST", "by_type", "hex", "each-line"] {
+    for name in ["typed_by", "In", "here", "levels", "groups", "MOST", "by_type", "hex", "each_line"] {
         assert_eq!(found(&page.replace(&format!("`{name}"), &format!("`{name}s"))).len(), 1, "{name}");
     }
 }
@@ -74,21 +74,21 @@ fn words_in_parentheses_are_no_place() {
 
 #[test]
 fn a_name_that_had_its_place_may_stand_at_another() {
-    none(found("- `levels` (codec, proofs/Mps)\n- so `levels` and `byType` (codec, Request)\n"));
-    finds("so `levels` and `byType` (codec, Request)\n", "`levels` is not defined in crate codec, Request");
-    let below_another = found("- `levels` (codec, proofs/Mps)\n\n# New\n\nso `levels` and `byType` (codec, Request)\n");
+    none(found("- `levels` (codec, proofs/Mps)\n- so `levels` and `typed_by` (codec, Request)\n"));
+    finds("so `levels` and `typed_by` (codec, Request)\n", "`levels` is not defined in crate codec, Request");
+    let below_another = found("- `levels` (codec, proofs/Mps)\n\n# New\n\nso `levels` and `typed_by` (codec, Request)\n");
     assert_eq!(below_another, ["docs/DECISIONS.md:5: `levels` is not defined in crate codec, Request"]);
 }
 
 #[test]
 fn a_name_that_is_not_there_is_found() {
-    finds("`byTpye` (codec, Request)\n", "`byTpye` is not defined in crate codec, Request");
-    finds("`byTpye` `In` (codec Request)\n", "`byTpye` is not defined in crate codec, Request");
-    finds("`byTpye`, `In` (codec Request)\n", "`byTpye` is not defined in crate codec, Request");
+    finds("`typde_by` (codec, Request)\n", "`typde_by` is not defined in crate codec, Request");
+    finds("`typde_by` `In` (codec Request)\n", "`typde_by` is not defined in crate codec, Request");
+    finds("`typde_by`, `In` (codec Request)\n", "`typde_by` is not defined in crate codec, Request");
     finds("`other` (codec, Request)\n", "`other` is not defined in crate codec, Request");
-    finds("`byType` (codec, proofs/Mps)\n", "`byType` is not defined in crate codec, proofs/Mps");
-    finds("`byType` (codec, src/pdu.rt)\n", "`byType` is not defined in crate codec, src/pdu.rt");
-    finds("`forMp` (codec)\n", "`forMp` is not defined in crate codec");
+    finds("`typed_by` (codec, proofs/Mps)\n", "`typed_by` is not defined in crate codec, proofs/Mps");
+    finds("`typed_by` (codec, src/pdu.rt)\n", "`typed_by` is not defined in crate codec, src/pdu.rt");
+    finds("`for_mp` (codec)\n", "`for_mp` is not defined in crate codec");
     finds("`levels` (codec, Mps; codec, Request)\n", "`levels` is not defined in crate codec, Request");
 }
 
@@ -101,8 +101,8 @@ fn a_function_without_a_promise_is_found() {
 
 #[test]
 fn a_place_that_is_not_there_is_found() {
-    finds("`byType` (codec, specs/Requests)\n", "no such file: crate codec, specs/Requests");
-    finds("`byType` (codec, Request; and so on)\n", "no place that can be read: (and so on)");
+    finds("`typed_by` (codec, specs/Requests)\n", "no such file: crate codec, specs/Requests");
+    finds("`typed_by` (codec, Request; and so on)\n", "no place that can be read: (and so on)");
     for place in [
         "codek Request",
         "codek, Requests",
@@ -114,6 +114,6 @@ fn a_place_that_is_not_there_is_found() {
         "codec: of old",
         "codec Request, Mps",
     ] {
-        finds(&format!("`byType` ({place})\n"), &format!("no place that can be read: ({place})"));
+        finds(&format!("`typed_by` ({place})\n"), &format!("no place that can be read: ({place})"));
     }
 }

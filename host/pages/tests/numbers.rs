@@ -70,10 +70,10 @@ fn what_the_entries_rest_on_is_listed() {
 
 #[test]
 fn a_file_too_few_or_too_many_is_found() {
-    let entry = ("crates/tmavolice/src/make.rt", "ghost use Rattle·codec.specs.A.{x};\n");
+    let entry = ("crates/tmavolice/src/make.rt", "ghost use Rattle.std.specs.P.{x};\nghost use Rattle.codec.specs.A.{x};\n");
     let [a, b, d] = ["crates/codec/specs/A.antt", "crates/codec/specs/B.antt", "crates/plan/specs/D.antt"];
     let of_a =
-        "use Rattle·codec·specs.specs.B.{y}\nuse Rattle·plan.specs.D.{z}\nuse Rattle·plan.specs.declared.P.{P}\n";
+        "use Rattle.codec.specs.B.{y}\nuse Rattle.plan.specs.D.{z}\nuse Rattle.plan.specs.declared.P.{P}\n";
     let found = trust::complete(&Tree::of(&[("docs/TRUST.md", TRUST), entry, (a, of_a), (b, ""), (d, "")]));
     assert_eq!(found[0], "docs/TRUST.md:1: does not list crates/plan/specs/D.antt");
     assert_eq!(found[1..], ["docs/TRUST.md:1: no entry rests on crates/plan/specs/C.antt"]);

@@ -64,9 +64,9 @@ static int is_made(size_t end) {
     for (ssize_t got; file >= 0 && (got = read(file, plan + length, PLAN_ROOM - length)) > 0;)
         length += (size_t)got;
     uint64_t made = tmavolice_make(image, sizeof image, plan, length, 0);
-    if ((made & 255) == TMAVOLICE_OUTCOME_PLAN_FAULT)
+    if ((made & 255) == TMAVOLICE_PLAN_FAULT)
         write_all(out, (size_t)(put_fault(out, made >> 32, made >> 8 & 255) - out));
-    return (made & 255) != TMAVOLICE_OUTCOME_PLAN_FAULT;
+    return (made & 255) != TMAVOLICE_PLAN_FAULT;
 }
 
 int main(void) {

@@ -1,0 +1,6 @@
+use Rattle.machine.specs.Table.{event_at}
+use Rattle.calls_serving.proofs.management.prohibit_flow.Goals as goal
+
+pub returns : goal.returns
+unfolding event_at
+returns c = c.manage_flow.ensures

@@ -1,0 +1,7 @@
+use Rattle.codec.specs.Request.{octet, offset_of}
+use native.Mathlib.Omega.{arith}
+use Rattle.codec.proofs.requests.first_tlv.Goals as goal
+
+pub returns : goal.returns
+unfolding offset_of octet
+returns c = (rw c.octet_at.ensures, omega arith)

@@ -1,0 +1,11 @@
+use native.Mathlib.Nat.{add-zero}
+use Rattle.codec_replies.specs.Reply.{flags_by}
+use Rattle.codec_replies.proofs.reply.flags_of.Goals as goal
+
+pub returns-then-copied : goal.returns-then-copied
+unfolding flags_by
+returns-then-copied c = rw (c.if-copied.true, ← c.active_flags.ensures.0)
+
+pub returns : goal.returns
+unfolding flags_by
+returns c = rw (c.if-copied.false, add-zero) c.active_flags-2.ensures.0

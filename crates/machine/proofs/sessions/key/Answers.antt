@@ -1,0 +1,7 @@
+use Rattle.std.proofs.Common.{refl}
+use Rattle.machine.specs.Machine.{key}
+use Rattle.machine.proofs.sessions.key.Goals as goal
+
+pub returns : goal.returns
+unfolding key
+returns c = refl

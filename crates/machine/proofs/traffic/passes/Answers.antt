@@ -1,0 +1,10 @@
+use Rattle.machine.specs.Machine.{passes}
+use Rattle.machine.proofs.traffic.passes.Goals as goal
+
+pub returns-then-soam : goal.returns-then-soam
+unfolding passes
+returns-then-soam c = rw c.if-soam.true
+
+pub returns : goal.returns
+unfolding passes
+returns c = rw c.if-soam.false

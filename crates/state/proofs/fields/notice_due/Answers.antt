@@ -1,0 +1,5 @@
+use Rattle.state.proofs.Answers.{notice_found}
+use Rattle.state.proofs.fields.notice_due.Goals as goal
+
+pub returns : goal.returns
+returns c = notice_found _ c.owed_at.ensures
