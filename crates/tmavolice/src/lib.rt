@@ -1,5 +1,6 @@
 // The product: the seven calls as C entries over the lent image.
 #![tactic(auto)]
+
 mod entries;
 mod make;
 mod refusals;
