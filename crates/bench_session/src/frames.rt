@@ -1,6 +1,7 @@
 // The frames: what stands behind the tag, with a name each, in rows that are filled up to one length.
 use crate::report::{tell, tell_number, tell_octet, tell_row, trimmed};
 use octets::copy_into;
+use std::io;
 use tmavolice::tmavolice_frame;
 
 pub const ACTIVATE: u64 = 0;
@@ -58,13 +59,13 @@ fn name_of(row: u64) -> [u8; 28] {
 }
 
 // Its name, the last octet of its source, and its VID.
-pub fn tell_frame(source: u64, vid: u64, row: u64) {
+pub fn tell_frame(rt: &impl Print, source: u64, vid: u64, row: u64) -> io::Result<()> {
     let name = name_of(row);
-    tell(b"  ");
-    tell_row(&name);
-    tell_octet(b", from ", (source % 256) as u8);
-    tell_number(b" on VID ", vid);
-    tell(b": ");
+    tell(rt, b"  ")?;
+    tell_row(rt, &name)?;
+    tell_octet(rt, b", from ", (source % 256) as u8)?;
+    tell_number(rt, b" on VID ", vid)?;
+    tell(rt, b": ")
 }
 
 // What stands behind the tag: nothing for a row that is not there.

@@ -6,55 +6,57 @@ use crate::steps::{
     ALLOW, ASK, FRAME_13, FRAME_14, FROM, NOTICE, PROHIBIT, SHORT, START, START_LEVELS, TICK,
     VID_30, title_of,
 };
+use std::io;
 use tmavolice::{
     tmavolice_allow, tmavolice_frame, tmavolice_make, tmavolice_notice, tmavolice_prohibit,
     tmavolice_restart, tmavolice_tick,
 };
 
-pub fn play_all(image: &mut [u8], out: &mut [u8]) {
+pub fn play_all(rt: &impl Print, image: &mut [u8], out: &mut [u8]) -> io::Result<()> {
     let mut i = 0;
     while i < COUNT {
-        play(step_at(i), image, out);
+        play(rt, step_at(i), image, out)?;
         i += 1;
     }
+    Ok(())
 }
 
-fn play(step: u64, image: &mut [u8], out: &mut [u8]) {
+fn play(rt: &impl Print, step: u64, image: &mut [u8], out: &mut [u8]) -> io::Result<()> {
     let n = step % 4294967296;
-    say(step - n, n);
+    say(rt, step - n, n)?;
     let answer = call(step - n, n, image, out);
-    tell_answer(answer, out);
-    tell(b"\n");
+    tell_answer(rt, answer, out)?;
+    tell(rt, b"\n")
 }
 
 // What is played.
-fn say(what: u64, n: u64) {
+fn say(rt: &impl Print, what: u64, n: u64) -> io::Result<()> {
     match what {
-        START => say_start(n),
-        START_LEVELS => say_start(n),
-        ASK => tell_frame(0xAA, 20, n),
-        FROM => tell_frame(n, 20, ACTIVATE),
-        VID_30 => tell_frame(0xAA, 30, DATA),
-        SHORT => tell(b"  Activate, 60 s, output of 2,007 octets: "),
-        FRAME_13 => tell(b"  frame of 13 octets: "),
-        FRAME_14 => tell(b"  frame of 14 octets: "),
-        TICK => say_call(b"  tick ", n),
-        ALLOW => say_call(b"  allow ", n),
-        PROHIBIT => say_call(b"  prohibit ", n),
-        NOTICE => tell(b"  notice: "),
-        _ => say_call(b"  restart ", n),
+        START => say_start(rt, n),
+        START_LEVELS => say_start(rt, n),
+        ASK => tell_frame(rt, 0xAA, 20, n),
+        FROM => tell_frame(rt, n, 20, ACTIVATE),
+        VID_30 => tell_frame(rt, 0xAA, 30, DATA),
+        SHORT => tell(rt, b"  Activate, 60 s, output of 2,007 octets: "),
+        FRAME_13 => tell(rt, b"  frame of 13 octets: "),
+        FRAME_14 => tell(rt, b"  frame of 14 octets: "),
+        TICK => say_call(rt, b"  tick ", n),
+        ALLOW => say_call(rt, b"  allow ", n),
+        PROHIBIT => say_call(rt, b"  prohibit ", n),
+        NOTICE => tell(rt, b"  notice: "),
+        _ => say_call(rt, b"  restart ", n),
     }
 }
 
-fn say_start(case: u64) {
+fn say_start(rt: &impl Print, case: u64) -> io::Result<()> {
     let title = title_of(case);
-    tell_row(&title);
-    tell(b"\n  make, allow 1: ");
+    tell_row(rt, &title)?;
+    tell(rt, b"\n  make, allow 1: ")
 }
 
-fn say_call(words: &[u8], n: u64) {
-    tell_number(words, n);
-    tell(b": ");
+fn say_call(rt: &impl Print, words: &[u8], n: u64) -> io::Result<()> {
+    tell_number(rt, words, n)?;
+    tell(rt, b": ")
 }
 
 // The call itself.

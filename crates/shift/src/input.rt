@@ -4,9 +4,10 @@ ghost use Rattle.shift.specs.Inside.{Inside};
 
 use events_shift::keep;
 use plan_lines::{LF, end_of};
+use std::io::Read;
 
 // What was read and not yet served stands in the buffer from one place up to another.
-#[derive(Drop)]
+#[derive(Clone, Copy)]
 pub struct Input {
     pub from: usize,
     pub upto: usize,
@@ -43,20 +44,19 @@ pub fn behind(input: Input, end: usize) -> Input
 }
 
 // An input that fails has ended.
-fn read_some(room: &mut [u8]) -> usize
+pub fn read_some<R: Read>(source: &mut R, room: &mut [u8]) -> usize
     ensures { result ≤ length room.old }
 {
-    let got = libc::read(libc::STDIN_FILENO, room);
-    io::count(got, room)
+    source.read(room).unwrap_or(0)
 }
 
 // Reads on, behind what is kept of the line that has not ended.
-pub fn read_on(buffer: &mut [u8], input: Input) -> Input
+pub fn read_on<R: Read>(source: &mut R, buffer: &mut [u8], input: Input) -> Input
     requires { Inside input buffer.old }
     ensures { Inside result buffer.new }
 {
     let n = keep(buffer, input.from, input.upto);
-    let got = read_some(&mut buffer[n..]);
+    let got = read_some(source, &mut buffer[n..]);
     Input {
         from: 0,
         upto: n + got,
@@ -65,7 +65,7 @@ pub fn read_on(buffer: &mut [u8], input: Input) -> Input
 }
 
 // Reads until there is a line, or the input has ended.
-pub fn first_line(buffer: &mut [u8]) -> Input
+pub fn first_line<R: Read>(source: &mut R, buffer: &mut [u8]) -> Input
     ensures { Inside result buffer.new }
 {
     let mut input = Input {
@@ -81,7 +81,7 @@ pub fn first_line(buffer: &mut [u8]) -> Input
         if line_end(buffer, input) < input.upto {
             return input;
         }
-        input = read_on(buffer, input);
+        input = read_on(source, buffer, input);
         turns -= 1;
     }
     input

@@ -9,14 +9,7 @@ use calls_serving::{allow_flow, prohibit_flow, restart_at, serve_frame, take_not
 use state::port_numbered;
 use state_valid::is_image;
 
-#[unsafe(no_mangle)]
-pub extern "C" fn tmavolice_frame(
-    image: &mut [u8],
-    port: u32,
-    side: u32,
-    frame: &[u8],
-    out: &mut [u8],
-) -> u64
+pub fn tmavolice_frame(image: &mut [u8], port: u32, side: u32, frame: &[u8], out: &mut [u8]) -> u64
     ensures { Outcome (enter image.old (framed port side frame.now out.old))
         result image.new out.new }
 {
@@ -31,8 +24,7 @@ pub extern "C" fn tmavolice_frame(
     answer_number(Answer::Refused(8))
 }
 
-#[unsafe(no_mangle)]
-pub extern "C" fn tmavolice_tick(image: &mut [u8], clock: u32) -> u64
+pub fn tmavolice_tick(image: &mut [u8], clock: u32) -> u64
     ensures { Outcome (enter image.old (tick clock)) result image.new [] }
 {
     let no = tick_refusal(image, clock);
@@ -43,8 +35,7 @@ pub extern "C" fn tmavolice_tick(image: &mut [u8], clock: u32) -> u64
     answer_number(Answer::Done)
 }
 
-#[unsafe(no_mangle)]
-pub extern "C" fn tmavolice_allow(image: &mut [u8], flow: u32) -> u64
+pub fn tmavolice_allow(image: &mut [u8], flow: u32) -> u64
     ensures { Outcome (enter image.old (allow flow)) result image.new [] }
 {
     let no = flow_refusal(image, flow);
@@ -55,8 +46,7 @@ pub extern "C" fn tmavolice_allow(image: &mut [u8], flow: u32) -> u64
     answer_number(Answer::Done)
 }
 
-#[unsafe(no_mangle)]
-pub extern "C" fn tmavolice_prohibit(image: &mut [u8], flow: u32) -> u64
+pub fn tmavolice_prohibit(image: &mut [u8], flow: u32) -> u64
     ensures { Outcome (enter image.old (prohibit flow)) result image.new [] }
 {
     let no = flow_refusal(image, flow);
@@ -67,8 +57,7 @@ pub extern "C" fn tmavolice_prohibit(image: &mut [u8], flow: u32) -> u64
     answer_number(Answer::Done)
 }
 
-#[unsafe(no_mangle)]
-pub extern "C" fn tmavolice_notice(image: &mut [u8], out: &mut [u8]) -> u64
+pub fn tmavolice_notice(image: &mut [u8], out: &mut [u8]) -> u64
     ensures { Outcome (enter image.old (notice out.old))
         result image.new out.new }
 {
@@ -79,8 +68,7 @@ pub extern "C" fn tmavolice_notice(image: &mut [u8], out: &mut [u8]) -> u64
     answer_number(take_notice(image, out))
 }
 
-#[unsafe(no_mangle)]
-pub extern "C" fn tmavolice_restart(image: &mut [u8], clock: u32) -> u64
+pub fn tmavolice_restart(image: &mut [u8], clock: u32) -> u64
     ensures { Outcome (enter image.old (restart clock)) result image.new [] }
 {
     let no = restart_refusal(image);

@@ -8,8 +8,7 @@ use plan_reader::read_plan;
 use state::IMAGE_LENGTH;
 use state_maker::make_image;
 
-#[unsafe(no_mangle)]
-pub extern "C" fn tmavolice_make(image: &mut [u8], plan: &[u8], clock: u32) -> u64
+pub fn tmavolice_make(image: &mut [u8], plan: &[u8], clock: u32) -> u64
     ensures { Outcome (enter image.old (make plan.now clock)) result image.new [] }
 {
     if image.len() != IMAGE_LENGTH {
