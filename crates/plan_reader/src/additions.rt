@@ -10,6 +10,7 @@ use plan::{Flow, LEVELS, Port, Records};
 use plan_lines::Said;
 use plan_records::{flow_put, mps_put, port_put};
 
+#[inline(never)]
 fn with_port(r: Records, number: u32, kind: u8, address: u64) -> Records
     requires { (r ≡ by_value (plan_of r)) × (so_far (plan_of r) ≡ true) × (port_reason (plan_of r) number address ≡ 0) }
     ensures { result ≡ by_value (added (port_line number kind address) (plan_of r)) }
@@ -28,6 +29,7 @@ fn with_port(r: Records, number: u32, kind: u8, address: u64) -> Records
     }
 }
 
+#[inline(never)]
 fn with_flow(r: Records, number: u32, port: u32, kind: u8, vid: u32) -> Records
     requires { (r ≡ by_value (plan_of r)) × (so_far (plan_of r) ≡ true) × (flow_reason (plan_of r) number port kind vid ≡ 0) }
     ensures { result ≡ by_value (added (flow_line number port kind vid) (plan_of r)) }
@@ -48,6 +50,7 @@ fn with_flow(r: Records, number: u32, port: u32, kind: u8, vid: u32) -> Records
     }
 }
 
+#[inline(never)]
 fn with_mp(r: Records, flow: u32, kind: u8, level: u32) -> Records
     requires { (r ≡ by_value (plan_of r)) × (mp_reason (plan_of r) flow level ≡ 0) }
     ensures { result ≡ by_value (added (mp_line flow kind level) (plan_of r)) }

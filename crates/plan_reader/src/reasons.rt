@@ -98,6 +98,7 @@ fn mp_reason(r: Records, flow: u32, level: u32) -> u8
     NO_FAULT
 }
 
+#[inline(never)]
 pub fn reason_of(r: Records, line: Said) -> u8
     ensures { result ≡ said_reason (plan_of r) line }
 {

@@ -22,6 +22,7 @@ fn no_records() -> Records
     }
 }
 
+#[inline(never)]
 fn faulty(line: u32, reason: u8) -> ReadPlan
     ensures { result ≡ read_as (fault line reason) }
 {
@@ -33,6 +34,7 @@ fn faulty(line: u32, reason: u8) -> ReadPlan
     }
 }
 
+#[inline(never)]
 fn ended(records: Records) -> ReadPlan
     requires { records ≡ by_value (plan_of records) }
     ensures { result ≡ read_as (finished (plan_of records)) }
@@ -48,6 +50,7 @@ fn ended(records: Records) -> ReadPlan
     }
 }
 
+#[inline(never)]
 pub fn read_plan(text: &[u8]) -> ReadPlan
     ensures { result ≡ read_as (plan_in text.now) }
 {

@@ -125,6 +125,7 @@ fn put_places(b: &mut [u8], flows: [Flow; MOST_FLOWS])
 }
 
 // The image of a unit with this plan: no flow allowed, no session, the clock at the reading given.
+#[inline(never)]
 pub fn make_image(b: &mut [u8], r: Records, clock: u32)
     requires { (length b.old ≡ 4096) × (keeps_rules (plan_of r) ≡ true) }
     ensures { b.new ≡ image (made (plan_of r) clock) }
