@@ -2,7 +2,11 @@
 # linker, start files and C library, and start.sh runs the programs on the kit's emulator. The C headers are the machine's own;
 # what the programs use of them is the same on x86-64.
 MACHINE := $(shell uname -m)
-TOOLS := $(shell dirname $$(dirname $$(rt doc)))/on/$(MACHINE)/toolchain
+TOOLS := $(shell dirname $$(rt doc))/on/$(MACHINE)/toolchain
+
+ifeq ($(wildcard $(TOOLS)),)
+$(error the kit has nothing for this machine ($(MACHINE)): it is for x86-64)
+endif
 
 ifeq ($(CLANG),)
 $(error clang is needed to compile for x86-64 on this machine ($(MACHINE)), and there is none)

@@ -5,8 +5,9 @@
 # Usage: native.sh CRATE LIBRARY.a, or native.sh PROGRAM OBJECT.o, from the folder host
 crate=$1 written=$2
 machine=$(uname -m)
-kit=$(dirname "$(dirname "$(rt doc)")")
+kit=$(dirname "$(rt doc)")
 own=$kit/on/$machine
+[ -d "$own" ] || { echo "the kit has nothing for $machine: it is for x86-64" >&2; exit 1; }
 tools=$own/toolchain
 root=$(cd .. && pwd -P)
 work=$(mktemp -d) || exit 1

@@ -31,9 +31,11 @@ need() { # PROGRAM LEAST FROM
     fi
 }
 
+machine=$(uname -m)
 for each; do
     case $each in
     rt)
+        [ "$machine" = x86_64 ] || lacks "the kit is for x86-64, and this machine is $machine: nothing can be built here"
         if ! command -v rt >/dev/null; then
             lacks "rt is needed: put the Rattle kit's folder bin on the path"
         elif [ "$(rt version | sed 's/.* //')" != "${logics##* }" ]; then

@@ -4,5 +4,6 @@
 # Usage: start.sh PROGRAM [WORD..]
 machine=$(uname -m)
 [ "$machine" != x86_64 ] || exec "$@"
-tools=$(dirname "$(dirname "$(rt doc)")")/on/$machine/toolchain
+tools=$(dirname "$(rt doc)")/on/$machine/toolchain
+[ -d "$tools" ] || { echo "this kit has no emulator for $machine: it is for x86-64" >&2; exit 1; }
 exec "$tools/bin/qemu-x86_64" -cpu qemu64 "$tools/lib/ld-linux-x86-64.so.2" --library-path "$tools/lib" "$@"

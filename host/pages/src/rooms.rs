@@ -26,8 +26,8 @@ pub fn check(tree: &Tree) -> Vec<String> {
     findings
 }
 
-/// Each crate with those that it uses.
+/// Each crate with those that it uses. Behind the name of a static library stands that it is one.
 fn crates(text: &str) -> Vec<(&str, Vec<&str>)> {
     let lines = text.lines().filter_map(|line| line.split_once(':'));
-    lines.map(|(name, used)| (name, used.split_whitespace().collect())).collect()
+    lines.map(|(name, used)| (name.trim_end_matches(" staticlib"), used.split_whitespace().collect())).collect()
 }

@@ -4,7 +4,7 @@ use std::collections::BTreeMap;
 use std::ffi::OsStr;
 use std::os::unix::ffi::OsStrExt;
 use std::path::Path;
-use std::{fs, io};
+use std::{fs, io, str};
 
 /// A folder that is always there, in the one of the run.
 pub(crate) const BELOW: &str = "below";
@@ -22,13 +22,13 @@ impl Folder {
         Folder { files: BTreeMap::from([(name.to_vec(), octets)]) }
     }
 
-    /// What Linux gives for that name: `./` in front of it changes nothing.
+    /// What the program gets for that name: `./` in front of it changes nothing. By one that is not UTF-8 it opens no file, as Linux would.
     pub(crate) fn open(&self, name: &[u8]) -> Option<Vec<u8>> {
         let mut plain = name;
         while let Some(rest) = plain.strip_prefix(b"./") {
             plain = rest;
         }
-        self.files.get(plain).filter(|_| name.len() <= MOST_NAME).cloned()
+        self.files.get(plain).filter(|_| name.len() <= MOST_NAME && str::from_utf8(name).is_ok()).cloned()
     }
 
     /// Makes the folder at that path hold these files and no others.

@@ -16,16 +16,18 @@ type Naming = fn(&mut Random) -> (Vec<u8>, Vec<u8>);
 /// Makes a line.
 type Line = fn(&mut Random) -> Vec<u8>;
 
-pub(crate) const OPENED: [(Name, Naming); 6] = [
+pub(crate) const OPENED: [(Name, Naming); 7] = [
     ("name as it stands", |_| same(USUAL)),
     ("name with odd octets", |random| {
-        let names = [&b"a plan"[..], b" plan ", b"plan\r", b"a\tplan", b"\xFF\x80plan", b"-", b"\r", b"..."];
+        let names = [&b"a plan"[..], b" plan ", b"plan\r", b"a\tplan", b"\xC3\xA9plan", b"-", b"\r", b"..."];
         same(random.pick(&names))
     }),
     ("name in a folder below", |_| same(format!("{BELOW}/plan").as_bytes())),
     ("name behind ./", |random| (USUAL.to_vec(), behind_dots(USUAL.len() + 2 * (1 + random.below(40))))),
     ("name of over 255 octets", |random| (USUAL.to_vec(), behind_dots(256 + 2 * random.below(900)))),
     ("name of 4,095 octets", |_| (ODD.to_vec(), [&b"./".repeat((MOST_NAME - ODD.len()) / 2), ODD].concat())),
+    // a file has it, which the program does not open
+    ("name that is not UTF-8", |random| same(random.pick(&[&b"\xFF\x80plan"[..], b"plan\xC3", b"\xED\xA0\x80"]))),
 ];
 
 /// Lines by which no file can be opened, though one is there by the usual name.
