@@ -21,6 +21,8 @@ const FALSE_FACT: &str =
 const ANOTHER_TYPE: &str =
     "./proofs/callee/Answers.antt:22:24: error: `returns`: expected type `c.loop-i.acc ≡ 0 → ⊥`, but this has \
 type `c.loop-i.acc ≡ 1 → ⊥`";
+const APART: &str =
+    "./proofs/callee/Answers.antt:15:100: error: `returns`: computed as far as they go, the two types are `a ≡ b`";
 const OTHER_VALUES: &str = "./proofs/Laws.antt:38:10: error: `back`: as printed, the two values first differ where one has `8` (found), at the \
 start, and the other has `7` (required)";
 const TACTIC: &str =
@@ -74,6 +76,7 @@ fn a_false_fact_of_its_own_is_a_refusal() {
     let (at, words) = place(verdict(&body("callee"), &[TACTIC, UNNAMED, FALSE_FACT, CALLEE_NOT, NOT_PROVED]));
     assert_eq!((at.as_str(), words), ("proofs/callee/Answers.antt:23", Words::FalseFact));
     let promise = Wrong::Promise("c::callee".to_string());
+    assert_eq!(place(verdict(&promise, &[APART, CALLEE_NOT, NOT_PROVED])).1, Words::FalseFact);
     assert_eq!(place(verdict(&promise, &[ANOTHER_TYPE, CALLEE_NOT, NOT_PROVED])).1, Words::FalseFact);
 }
 
