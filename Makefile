@@ -26,10 +26,10 @@ shift:
 	@host/needs.sh $(BUILDS)
 	@$(MAKE) -s -C host shift
 
-# The layout of every file; every proof and program, from nothing; every wrong program; then the host's tests.
+# The gate of the kit: layout, every proof, program and edit of must-fail/; every wrong program; then the host's tests.
 test:
 	@host/needs.sh $(TESTS)
-	@host/in_memory.sh host/test.sh
+	@host/test.sh
 
 # Every wrong program, many in one check; or those of some crates, as in `make wrong CRATES="codec machine"`.
 wrong:

@@ -1,10 +1,10 @@
 #!/bin/sh
-# Every check. First the layout of the files; then every proof, the wrong programs of must-fail/ and every program, from nothing (rt ci);
+# Every check. First the gate of the kit, rt ci: the layout of the files, every proof, the wrong programs of must-fail/ and every program;
 # then all wrong programs, many in one check; then the host's programs and tests, on the library as a host links it. Each says how far it
 # is. The last line is the sum: 'N passed, M failed'.
 cd "$(dirname "$0")/.." || exit 1
-out=$(mktemp) || exit 1
-trap 'rm -f "$out"' EXIT
+out=$(mktemp) && status=$(mktemp) || exit 1
+trap 'rm -f "$out" "$status"' EXIT
 began=$(date +%s)
 passed=0 failed=0
 
@@ -47,13 +47,21 @@ tests() {
     (cd host && cargo test --release --offline "$@" 2>&1)
 }
 
-part 'The layout of the files'
-rt fmt --check || add 0 1
-
-part "Every proof, the wrong programs of must-fail/ and every program, from nothing"
-rt ci 2>&1 | tee "$out" | host/progress.sh "$(grep -c : crates.txt)" "$(find crates -path '*/must-fail/*.edit' | wc -l)"
+part 'The layout, every proof, the wrong programs of must-fail/ and every program'
+edits=$(find crates/*/must-fail -name '*.edit' | wc -l)
+{
+    rt ci 2>&1
+    echo $? >"$status"
+} | tee "$out" | host/progress.sh "$(grep -c '^[a-z]' crates.txt)" "$edits"
+# An edit that can't be applied or read fails nothing there, and fails here.
+bad=$(sed -n 's/^rt: ok; .* must-fail edits: [^;]*, \([0-9]*\) bad; .*/\1/p' "$out")
+refused=$(sed -n 's/^rt: ok; .* must-fail edits: \([0-9]*\) refused.*/\1/p' "$out")
 # shellcheck disable=SC2046
-add $(sum)
+set -- $(sum)
+[ "$(cat "$status")" = 0 ] || [ "${2:-1}" -ne 0 ] || set -- "$1" 1
+add "$1" "$2"
+add 0 "${bad:-0}"
+[ "${refused:-0}" -eq "$edits" ] || [ -n "$bad" ] || [ "${2:-1}" -ne 0 ] || add 0 1
 
 part 'All wrong programs, many in one check'
 (cd host && cargo run --release --offline -q -p wrong 2>&1) | tee "$out"
@@ -78,7 +86,7 @@ check host/quoted.sh docs/BENCH.md text host/run/stdout all
 check host/quoted.sh docs/SHIFT.md log host/shift/log
 check host/quoted.sh docs/SHIFT.md answers host/shift/answers
 check host/quoted.sh docs/HOST.md c host/example/host.c all
-check host/quoted.sh docs/TRUST.md rt crates/tmavolice/src/entries.rt all
+check host/quoted.sh docs/TRUST.md rt crates/tmavolice_c/src/lib.rt all
 check host/quoted.sh README.md c host/readme/ten.c
 check make -s tools
 check host/tools.sh
