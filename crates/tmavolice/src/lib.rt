@@ -1,4 +1,4 @@
-// The product: the seven calls as C entries over the lent image.
+// The product: the seven calls over the lent image. The crate tmavolice_c exports them for C.
 #![tactic(auto)]
 
 mod entries;

@@ -20,15 +20,15 @@ pub fn check(tree: &Tree) -> Vec<String> {
     findings
 }
 
-/// Names that no header has, but those of crates. One that ends in `_` stands for a family.
+/// Names that no header has, and no crate. One that ends in `_` stands for a family.
 fn unknown(tree: &Tree) -> Vec<String> {
     let headers = tree.below("include/");
+    let crates: Vec<&str> = tree.text("crates.txt").unwrap_or("").split([' ', ':', '\n']).collect();
     let known: Vec<&str> = headers.iter().flat_map(|(_, text)| words(text, "_")).map(|(_, word)| word).collect();
     let mut findings = Vec::new();
     for (file, text) in ["README.md", "docs/", "packaging/man/"].iter().flat_map(|front| tree.below(front)) {
         let named = words(text, "_").into_iter().filter(|(_, word)| word.to_lowercase().starts_with("tmavolice_"));
-        let gone = named.filter(|(_, word)| !word.ends_with('_') && !known.contains(word));
-        let gone = gone.filter(|(_, word)| !tree.is_folder(&format!("crates/{word}")));
+        let gone = named.filter(|(_, word)| !word.ends_with('_') && !known.contains(word) && !crates.contains(word));
         findings.extend(gone.map(|(line, word)| format!("{file}:{line}: no header has {word}")));
     }
     findings

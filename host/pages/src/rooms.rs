@@ -26,8 +26,8 @@ pub fn check(tree: &Tree) -> Vec<String> {
     findings
 }
 
-/// Each crate with those that it uses. Behind the name of a static library stands that it is one.
+/// Each crate with those that it uses. A static library says so behind its name.
 fn crates(text: &str) -> Vec<(&str, Vec<&str>)> {
     let lines = text.lines().filter_map(|line| line.split_once(':'));
-    lines.map(|(name, used)| (name.trim_end_matches(" staticlib"), used.split_whitespace().collect())).collect()
+    lines.filter_map(|(name, used)| Some((name.split_whitespace().next()?, used.split_whitespace().collect()))).collect()
 }

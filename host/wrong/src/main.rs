@@ -1,5 +1,5 @@
-//! Tries every wrong program, or those of the crates that are named. The last line is 'N passed, M failed'.
-//! Usage: wrong [CRATE..], in the repository or below it
+//! Tries every wrong program, or those of the crates that are named, or those that are. The last line is 'N passed, M failed'.
+//! Usage: wrong [CRATE..] [CRATE/EDIT..], in the repository or below it
 
 use std::env;
 use std::process::ExitCode;

@@ -55,17 +55,21 @@ impl Names {
     }
 }
 
-/// The names at the heads of `pub NAME : ..` and `pub record NAME : ..`. The record `In-NAME` of a module is the type `NAME` of the goals.
+/// The names that a proof can cite: goals and invariants, `pub NAME : goal.NAME`; steps, `pub NAME : Own-After-f before`; and the places of
+/// goals, which are the records `In-NAME`.
 fn declared(text: &str) -> Vec<String> {
-    let names = text.lines().filter_map(|line| {
-        let line = line.trim_start();
-        let line = line.strip_prefix("abbrev ").unwrap_or(line).strip_prefix("pub ")?;
-        let (line, is_step) = line.strip_prefix("record ").map_or((line, false), |rest| (rest, true));
-        let name = line.split(' ').next()?;
-        let name = name.strip_prefix("In-").filter(|_| is_step).unwrap_or(name);
-        line[line.find(' ')?..].trim_start().starts_with(':').then(|| name.to_string())
-    });
-    names.collect()
+    text.lines().filter_map(|line| declares(line.trim_start())).map(str::to_string).collect()
+}
+
+fn declares(line: &str) -> Option<&str> {
+    let line = line.strip_prefix("abbrev ").unwrap_or(line).strip_prefix("pub ")?;
+    if let Some(record) = line.strip_prefix("record In-") {
+        return record.split(' ').next();
+    }
+    let (name, of) = line.split_once(" :")?;
+    let of = of.trim_start();
+    let is_cited = ["goal.", "Own-", "Step-"].iter().any(|kind| of.starts_with(kind)) || of.is_empty();
+    (is_cited && !name.contains(' ')).then_some(name)
 }
 
 /// The files with these names turned in all files below the folder.

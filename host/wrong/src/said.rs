@@ -141,8 +141,9 @@ fn ground(words: &str) -> Ground {
     }
 }
 
-/// Two types, or the values of two terms, that are to be the same and differ.
+/// Two types, or the values of two terms, that are to be the same and differ; or are shown, as they have nothing in common.
 fn is_false_fact(words: &str) -> bool {
-    let two = ["the two types", "the two values", "the two sides"].iter().any(|two| words.contains(two));
-    two && words.contains("differ") || words.contains("expected type `") && words.contains("but this has type `")
+    let two = ["the two types", "the two values", "the two sides", "the two indices"];
+    let apart = |two: &&str| words.contains(&format!("{two} are `")) || words.contains(two) && words.contains("differ");
+    two.iter().any(apart) || words.contains("expected type `") && words.contains("but this has type `")
 }

@@ -41,28 +41,34 @@ pub struct Round<'a> {
     is_renamed: bool,
 }
 
-/// The named crates, or all, that have edits. Those with the most to check come first, so that no processor is left with
-/// one of them at the end.
+/// The named crates, or all, that have edits; of a name `CRATE/EDIT` that edit alone. Those with the most to check come first, so that no
+/// processor is left with one of them at the end.
 pub fn of_repository(root: &Path, named: &[String]) -> Result<Vec<Subject>, String> {
     let listed = listed::crates(root)?;
-    if let Some(unknown) = named.iter().find(|name| listed.iter().all(|krate| krate.name != **name)) {
+    let krate = |name: &String| name.split('/').next().unwrap_or_default().to_string();
+    if let Some(unknown) = named.iter().map(krate).find(|name| listed.iter().all(|krate| krate.name != **name)) {
         return Err(format!("crates.txt has no crate {unknown}"));
     }
-    let wanted = listed.into_iter().filter(|krate| named.is_empty() || named.contains(&krate.name));
-    let subjects: Result<Vec<Subject>, String> = wanted.map(|krate| Subject::of(root, krate)).collect();
+    let wanted = listed.into_iter().filter(|one| named.is_empty() || named.iter().any(|name| krate(name) == one.name));
+    let subjects: Result<Vec<Subject>, String> = wanted.map(|krate| Subject::of(root, krate, named)).collect();
     let mut subjects: Vec<Subject> =
         subjects?.into_iter().filter(|s| !s.edits.is_empty() || !s.bad.is_empty()).collect();
     subjects.sort_by_key(|subject| std::cmp::Reverse(subject.files.values().map(String::len).sum::<usize>()));
     Ok(subjects)
 }
 
+/// Whether the edit is one that is to be tried: all of a crate that is named are, or no crate at all.
+fn is_named(krate: &str, edit: &str, named: &[String]) -> bool {
+    named.is_empty() || named.iter().any(|name| name == krate || name.split_once('/') == Some((krate, edit)))
+}
+
 impl Subject {
-    fn of(root: &Path, krate: Listed) -> Result<Subject, String> {
+    fn of(root: &Path, krate: Listed, named: &[String]) -> Result<Subject, String> {
         let folder = root.join("crates").join(&krate.name);
         let files = listed::files(&folder)?;
         let (mut edits, mut bad) = (Vec::new(), Vec::new());
         let sources = Sources::of(&krate.name, &files);
-        for edit in edit::of_crate(&folder)? {
+        for edit in edit::of_crate(&folder)?.into_iter().filter(|edit| is_named(&krate.name, &edit.name, named)) {
             match tried(&edit, &files, &sources) {
                 Ok(tried) => edits.push(tried),
                 Err(why) => bad.push(format!("{}/{}: BAD EDIT: {why}", krate.name, edit.name)),

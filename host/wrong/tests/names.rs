@@ -11,9 +11,14 @@ const VIEW: &str = "\
   pub record In-Then-x-lt7 : Type 0 where
     pub before : Lts.Then1 the-claims
     pub open before use *
-  abbrev pub up-Then-x-lt7 :
+  abbrev pub up-Then-x-lt7 : Then1 → In-Then-x-lt7
 ";
-const STEPS: &str = "    pub if-x-lt7 : Own-Then1 before\n    pub before : Args\n    pub if-x-lt7 : Own-Else1 before\n";
+const STEPS: &str = "\
+abbrev pub name-0 : List
+    pub if-x-lt7 : Own-Then1 before
+    pub before : Args
+    pub if-x-lt7 : Own-Else1 before
+";
 
 fn names(number: &str) -> Names {
     let modules = [GOALS, VIEW, STEPS].map(|text| text.replace('7', number));
@@ -22,12 +27,8 @@ fn names(number: &str) -> Names {
 
 #[test]
 fn names_of_the_same_place_are_turned() {
-    let expected = [
-        ("Then-x-lt7", "Then-x-lt8"),
-        ("if-x-lt7", "if-x-lt8"),
-        ("returns-then-x-lt7", "returns-then-x-lt8"),
-        ("up-Then-x-lt7", "up-Then-x-lt8"),
-    ];
+    let expected =
+        [("Then-x-lt7", "Then-x-lt8"), ("if-x-lt7", "if-x-lt8"), ("returns-then-x-lt7", "returns-then-x-lt8")];
     let expected = expected.map(|(old, new)| (old.to_string(), new.to_string()));
     assert_eq!(names("7").turned(&names("8")), Some(BTreeMap::from(expected)));
     assert_eq!(names("7").turned(&names("7")), Some(BTreeMap::new()));

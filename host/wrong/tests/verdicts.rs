@@ -21,8 +21,12 @@ const FALSE_FACT: &str =
 const ANOTHER_TYPE: &str =
     "./proofs/callee/Answers.antt:22:24: error: `returns`: expected type `c.loop-i.acc ≡ 0 → ⊥`, but this has \
 type `c.loop-i.acc ≡ 1 → ⊥`";
+const APART: &str =
+    "./proofs/callee/Answers.antt:15:100: error: `returns`: computed as far as they go, the two types are `a ≡ b`";
 const OTHER_VALUES: &str = "./proofs/Laws.antt:38:10: error: `back`: as printed, the two values first differ where one has `8` (found), at the \
 start, and the other has `7` (required)";
+const OTHER_INDICES: &str = "./proofs/Laws.antt:72:13: error: `sent`: computed as far as they go, the two indices differ only where one has `ts` \
+(the constructor's) and the other has `us` (the expected type's)";
 const TACTIC: &str =
     "./proofs/callee/Answers.antt:12:13: error: `returns`: `rw`: no occurrence of the path's left endpoint in \
 the goal: write the family yourself";
@@ -74,6 +78,7 @@ fn a_false_fact_of_its_own_is_a_refusal() {
     let (at, words) = place(verdict(&body("callee"), &[TACTIC, UNNAMED, FALSE_FACT, CALLEE_NOT, NOT_PROVED]));
     assert_eq!((at.as_str(), words), ("proofs/callee/Answers.antt:23", Words::FalseFact));
     let promise = Wrong::Promise("c::callee".to_string());
+    assert_eq!(place(verdict(&promise, &[APART, CALLEE_NOT, NOT_PROVED])).1, Words::FalseFact);
     assert_eq!(place(verdict(&promise, &[ANOTHER_TYPE, CALLEE_NOT, NOT_PROVED])).1, Words::FalseFact);
 }
 
@@ -135,6 +140,7 @@ fn a_function_that_is_proved_is_not_refused() {
 fn a_definition_is_refused_by_what_is_proved_of_it() {
     assert_eq!(place(verdict(&Wrong::Definition, &[OF_A_LAW, NOT_PROVED])).0, "proofs/Laws.antt:3");
     assert_eq!(place(verdict(&Wrong::Definition, &[OTHER_VALUES, NOT_PROVED])).1, Words::FalseFact);
+    assert_eq!(place(verdict(&Wrong::Definition, &[OTHER_INDICES, NOT_PROVED])).1, Words::FalseFact);
     assert!(!verdict(&Wrong::Definition, &[OF_SPECS, OF_A_LAW, NOT_PROVED]).is_refused());
     assert!(!verdict(&Wrong::Definition, &[NO_CLAUSE, OF_A_LAW, NOT_PROVED]).is_refused());
     assert!(!verdict(&Wrong::Definition, &[USED, NOT_PROVED]).is_refused());
