@@ -99,13 +99,13 @@ fn mp_reason(r: Records, flow: u32, level: u32) -> u8
 }
 
 #[inline(never)]
-pub fn reason_of(r: &Records, line: Said) -> u8
-    ensures { result ≡ said_reason (plan_of r.now) line }
+pub fn reason_of(r: Records, line: Said) -> u8
+    ensures { result ≡ said_reason (plan_of r) line }
 {
     match line {
         Said::Unreadable => UNREADABLE,
-        Said::OfPort(number, _, address) => port_reason(*r, number, address),
-        Said::OfFlow(number, port, kind, vid) => flow_reason(*r, number, port, kind, vid),
-        Said::OfMp(flow, _, level) => mp_reason(*r, flow, level),
+        Said::OfPort(number, _, address) => port_reason(r, number, address),
+        Said::OfFlow(number, port, kind, vid) => flow_reason(r, number, port, kind, vid),
+        Said::OfMp(flow, _, level) => mp_reason(r, flow, level),
     }
 }

@@ -66,7 +66,7 @@ pub fn read_plan(text: &[u8]) -> ReadPlan
             return faulty(n, UNREADABLE);
         }
         let line = line_of(&text[at..end]);
-        let reason = reason_of(&records, line);
+        let reason = reason_of(records, line);
         if reason != NO_FAULT {
             return faulty(n, reason);
         }
