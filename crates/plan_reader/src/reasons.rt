@@ -24,6 +24,7 @@ fn port_again(ports: [Port; PORTS], number: u32, address: u64) -> bool
     address_held(ports, address)
 }
 
+#[inline(never)]
 fn port_reason(r: Records, number: u32, address: u64) -> u8
     ensures { result ≡ port_reason (plan_of r) number address }
 {
@@ -49,6 +50,7 @@ fn flow_again(flows: [Flow; FLOWS], number: u32, key: u32) -> bool
     set_held(flows, key)
 }
 
+#[inline(never)]
 fn flow_reason(r: Records, number: u32, port: u32, kind: u8, vid: u32) -> u8
     ensures { result ≡ flow_reason (plan_of r) number port kind vid }
 {
@@ -77,6 +79,7 @@ fn mp_at(mps: [u8; LEVELS], level: u32) -> u8
     mps[level as usize]
 }
 
+#[inline(never)]
 fn mp_reason(r: Records, flow: u32, level: u32) -> u8
     ensures { result ≡ mp_reason (plan_of r) flow level }
 {
@@ -98,7 +101,6 @@ fn mp_reason(r: Records, flow: u32, level: u32) -> u8
     NO_FAULT
 }
 
-#[inline(never)]
 pub fn reason_of(r: Records, line: Said) -> u8
     ensures { result ≡ said_reason (plan_of r) line }
 {
