@@ -56,19 +56,21 @@ impl Names {
 }
 
 /// The names that a proof can cite: goals and invariants, `pub NAME : goal.NAME`; steps, `pub NAME : Own-After-f before`; and the places of
-/// goals, which are the records `In-NAME`.
+/// goals, which are the records `In-NAME`. Of a long name the type may stand in the next line.
 fn declared(text: &str) -> Vec<String> {
-    text.lines().filter_map(|line| declares(line.trim_start())).map(str::to_string).collect()
+    let lines: Vec<&str> = text.lines().map(str::trim_start).collect();
+    let next = lines.iter().skip(1).copied().chain([""]);
+    lines.iter().zip(next).filter_map(|(line, next)| declares(line, next)).map(str::to_string).collect()
 }
 
-fn declares(line: &str) -> Option<&str> {
+fn declares<'a>(line: &'a str, next: &str) -> Option<&'a str> {
     let line = line.strip_prefix("abbrev ").unwrap_or(line).strip_prefix("pub ")?;
     if let Some(record) = line.strip_prefix("record In-") {
         return record.split(' ').next();
     }
     let (name, of) = line.split_once(" :")?;
-    let of = of.trim_start();
-    let is_cited = ["goal.", "Own-", "Step-"].iter().any(|kind| of.starts_with(kind)) || of.is_empty();
+    let of = if of.trim().is_empty() { next } else { of.trim_start() };
+    let is_cited = ["goal.", "Own-", "Step-"].iter().any(|kind| of.starts_with(kind));
     (is_cited && !name.contains(' ')).then_some(name)
 }
 

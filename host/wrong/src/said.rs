@@ -53,6 +53,7 @@ pub enum Words {
 
 const TACTICS: [&str; 9] = ["cc", "grind", "grw", "omega", "rw", "search", "simp", "subst", "transport"];
 const UNNAMED: [&str; 4] = ["that can be named from here", "is not in scope", "has no field", "is no name"];
+const CONTINUED: [&str; 2] = ["but this has type `", "has no field `"];
 const VALUES: &str = "allow values at which this goal is false";
 
 impl Said {
@@ -62,7 +63,7 @@ impl Said {
         let stopped = || text.lines().find(|line| line.contains("error")).unwrap_or("it says nothing of it");
         let no_verdict = (!judged).then(|| stopped().to_string());
         let mut said = Said { no_verdict, functions: BTreeMap::new(), errors: Vec::new() };
-        for line in text.lines() {
+        for line in whole(text).lines() {
             if let Some((name, state)) = line.strip_prefix("fn ").and_then(|rest| rest.split_once(": ")) {
                 said.functions.insert(name.to_string(), State::read(state));
             } else if let Some(fault) = note(line).or_else(|| error(line)) {
@@ -76,6 +77,12 @@ impl Said {
         let proved = |state: &State| *state == State::Proved;
         self.no_verdict.is_none() && self.errors.is_empty() && self.functions.values().all(proved)
     }
+}
+
+/// The text with what is written in two lines where the first is long: a type that is expected and the one that was found, and a record
+/// and the field that it has not.
+fn whole(text: &str) -> String {
+    CONTINUED.iter().fold(text.to_string(), |text, words| text.replace(&format!("\n  {words}"), &format!(" {words}")))
 }
 
 impl State {

@@ -35,6 +35,14 @@ fn names_of_the_same_place_are_turned() {
 }
 
 #[test]
+fn a_type_may_stand_in_the_next_line() {
+    let whole = "pub returns-7 : goal.returns-7\nabbrev pub up-7 : Lts.Then1\n";
+    let cut = "pub returns-8 :\n    goal.returns-8\nabbrev pub up-8 :\n    Lts.Then1\n";
+    let expected = BTreeMap::from([("returns-7".to_string(), "returns-8".to_string())]);
+    assert_eq!(Names::of(&[whole]).turned(&Names::of(&[cut])), Some(expected));
+}
+
+#[test]
 fn other_goals_have_no_names_to_turn() {
     let fewer = Names::of(&[GOALS, VIEW, "pub if-x-lt7 : Own-Then1 before\n"]);
     assert_eq!(names("7").turned(&fewer), None);

@@ -41,6 +41,11 @@ const NO_STEP: &str =
 const ANOTHER_GOAL: &str =
     "./proofs/callee/Proof.antt:43:5: error: `callee_spec`: expected type `tie.Need-add-wide`, but this has type \
 `tie.Need-returns`";
+const TWO_LINES: &str = "./proofs/callee/Answers.antt:18:29: error: `f-requires`: expected type `Put (a ++ b) (?5 c)`
+  but this has type `Put (b ++ a) (?6 c)`";
+const NO_STEP_IN_TWO_LINES: &str =
+    "./proofs/callee/Answers.antt:20:87: error: `returns`: record `View.In-After-f` (nearest: .if-b)
+  has no field `if-a`";
 const UNREAD: &str = "./proofs/callee/Answers.antt:3:1: error: expected the end of the line";
 const NO_CLAUSE: &str = "./src/lib.rt:2:9: error: `callee`: expected type `ℕ`, but this has type `Bool`";
 const USED: &str = "./proofs/caller/Answers.antt:28:5: error: 1 declaration that depends on `law`, which was rejected, was not checked: \
@@ -79,7 +84,9 @@ fn a_false_fact_of_its_own_is_a_refusal() {
     assert_eq!((at.as_str(), words), ("proofs/callee/Answers.antt:23", Words::FalseFact));
     let promise = Wrong::Promise("c::callee".to_string());
     assert_eq!(place(verdict(&promise, &[APART, CALLEE_NOT, NOT_PROVED])).1, Words::FalseFact);
-    assert_eq!(place(verdict(&promise, &[ANOTHER_TYPE, CALLEE_NOT, NOT_PROVED])).1, Words::FalseFact);
+    for two_types in [ANOTHER_TYPE, TWO_LINES] {
+        assert_eq!(place(verdict(&promise, &[two_types, CALLEE_NOT, NOT_PROVED])).1, Words::FalseFact);
+    }
 }
 
 #[test]
@@ -114,7 +121,7 @@ fn so_are_a_tactics_words_for_a_body() {
 
 #[test]
 fn where_a_name_is_not_there_a_tactics_words_are_none() {
-    for unnamed in [UNNAMED, NO_STEP] {
+    for unnamed in [UNNAMED, NO_STEP, NO_STEP_IN_TWO_LINES] {
         for lines in [vec![unnamed, MADE, CALLEE_NOT, NOT_PROVED], vec![unnamed, CALLEE_NOT, NOT_PROVED]] {
             assert!(matches!(verdict(&body("callee"), &lines), Verdict::OtherNames(name) if name == "c::callee"));
         }
