@@ -55,7 +55,7 @@ impl Names {
     }
 }
 
-/// The names that a proof can cite: goals and invariants, `pub NAME : goal.NAME`; steps, `pub NAME : Own-After-f before`; and the places of
+/// The names that a proof can cite: goals and invariants, `pub NAME : goal.NAME`; steps and arms, `pub NAME : Own-After-f before`; and the places of
 /// goals, which are the records `In-NAME`. Of a long name the type may stand in the next line.
 fn declared(text: &str) -> Vec<String> {
     let lines: Vec<&str> = text.lines().map(str::trim_start).collect();
@@ -70,7 +70,7 @@ fn declares<'a>(line: &'a str, next: &str) -> Option<&'a str> {
     }
     let (name, of) = line.split_once(" :")?;
     let of = if of.trim().is_empty() { next } else { of.trim_start() };
-    let is_cited = ["goal.", "Own-", "Step-"].iter().any(|kind| of.starts_with(kind));
+    let is_cited = ["goal.", "Own-", "Step-", "Arm-"].iter().any(|kind| of.starts_with(kind));
     (is_cited && !name.contains(' ')).then_some(name)
 }
 
