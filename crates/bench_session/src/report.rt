@@ -1,88 +1,106 @@
-// What a line says: words, numbers, octets, and the answer of a call.
-ghost use Rattle.std.specs.Prelude.{◌≤◌, length};
+// What a call answers, taken out of its number, and the words for it.
+use std::fmt;
 
-use std::io;
+// The octets that a call is lent for what it sends.
+pub const OUT: usize = 2008;
 
-// How long a row is without what fills it up.
-pub fn trimmed(s: &[u8], fill: u8) -> usize
-    ensures { result ≤ length s.now }
-{
-    let mut n = s.len();
-    while 0 < n {
-        if s[n - 1] != fill {
-            return n;
+// Where a reply's PDU stands, behind a tag, and its code.
+const PDU: usize = 18;
+
+const CODE: usize = 23;
+
+#[derive(Clone, Copy)]
+pub enum Answer {
+    Refused { reason: u8 },
+    Forwarded,
+    Dropped,
+    Looped { length: usize },
+    Replied { length: usize },
+    RepliedForwarded { length: usize },
+    Noticed { port: u8, side: u8, length: usize },
+    Done,
+    Faulty { reason: u8 },
+}
+
+impl From<u64> for Answer {
+    fn from(number: u64) -> Answer {
+        let [outcome, reason, port, side, ..] = number.to_le_bytes();
+        let length = (number >> 32) as usize;
+        match outcome {
+            0 => Answer::Refused { reason },
+            1 => Answer::Forwarded,
+            2 => Answer::Dropped,
+            3 => Answer::Looped { length },
+            4 if port == 0 => Answer::Replied { length },
+            4 => Answer::Noticed { port, side, length },
+            5 => Answer::RepliedForwarded { length },
+            6 => Answer::Done,
+            7..=255 => Answer::Faulty { reason },
         }
-        n -= 1;
     }
-    0
 }
 
-pub fn tell(rt: &impl Print, words: &[u8]) -> io::Result<()> {
-    rt.write_all(words)
+// An answer, beside what its call was lent.
+#[derive(Clone, Copy)]
+pub struct Told<'a> {
+    pub answer: Answer,
+    pub out: &'a [u8; OUT],
 }
 
-// A row of words, filled up with spaces.
-pub fn tell_row(rt: &impl Print, words: &[u8]) -> io::Result<()> {
-    let n = trimmed(words, 32);
-    tell(rt, &words[0..n])
+impl<'a> Told<'a> {
+    // What was written from a place on.
+    fn written(&self, from: usize, length: usize) -> Hex<'a> {
+        let out = self.out;
+        Hex(out.get(from..length).unwrap_or(&[]))
+    }
 }
 
-pub fn tell_number(rt: &impl Print, words: &[u8], n: u64) -> io::Result<()> {
-    tell(rt, words)?;
-    print!(rt; "{n}")
-}
-
-pub fn tell_octet(rt: &impl Print, words: &[u8], x: u8) -> io::Result<()> {
-    tell(rt, words)?;
-    print!(rt; "{x:02x}")
-}
-
-// The octets from a place to an end.
-fn tell_octets(rt: &impl Print, s: &[u8], from: usize, end: usize) -> io::Result<()> {
-    tell(rt, b":")?;
-    let mut i = from;
-    while i < end {
-        if i < s.len() {
-            tell_octet(rt, b" ", s[i])?;
+impl fmt::Display for Told<'_> {
+    fn fmt<W: fmt::Write>(&self, f: &mut fmt::Formatter<W>) -> fmt::Result {
+        let code = self.out[CODE];
+        match self.answer {
+            Answer::Refused { reason } => write!(f, "refusal {reason}"),
+            Answer::Forwarded => f.write_str("forward"),
+            Answer::Dropped => f.write_str("drop"),
+            Answer::Looped { length } => {
+                write!(f, "loop, {length} octets:{}", self.written(0, length))
+            }
+            Answer::Replied { length } => {
+                write!(
+                    f,
+                    "reply, {length} octets, code {code}:{}",
+                    self.written(PDU, length)
+                )
+            }
+            Answer::RepliedForwarded { length } => {
+                write!(
+                    f,
+                    "reply and forward, {length} octets, code {code}:{}",
+                    self.written(PDU, length)
+                )
+            }
+            Answer::Noticed { port, side, length } => {
+                write!(
+                    f,
+                    "reply, {length} octets, code {code}, port {port}, side {side}:{}",
+                    self.written(PDU, length)
+                )
+            }
+            Answer::Done => f.write_str("done"),
+            Answer::Faulty { reason } => write!(f, "fault, reason {reason}"),
         }
-        i += 1;
     }
-    Ok(())
 }
 
-// A reply's length, its code, a notice's port and side, and its PDU, which stands behind a tag.
-fn tell_reply(rt: &impl Print, words: &[u8], answer: u64, out: &[u8]) -> io::Result<()> {
-    tell_number(rt, words, answer / 4294967296)?;
-    if 23 < out.len() {
-        tell_code(rt, out[23])?;
-    }
-    if answer / 65536 % 256 != 0 {
-        tell_number(rt, b", port ", answer / 65536 % 256)?;
-        tell_number(rt, b", side ", answer / 16777216 % 256)?;
-    }
-    tell_octets(rt, out, 18, (answer / 4294967296) as usize)
-}
+// Octets in hex.
+#[derive(Clone, Copy)]
+struct Hex<'a>(&'a [u8]);
 
-fn tell_code(rt: &impl Print, code: u8) -> io::Result<()> {
-    tell_number(rt, b" octets, code ", code as u64)
-}
-
-fn tell_loop(rt: &impl Print, answer: u64, out: &[u8]) -> io::Result<()> {
-    tell_number(rt, b"loop, ", answer / 4294967296)?;
-    tell(rt, b" octets")?;
-    tell_octets(rt, out, 0, (answer / 4294967296) as usize)
-}
-
-pub fn tell_answer(rt: &impl Print, answer: u64, out: &[u8]) -> io::Result<()> {
-    let outcome = (answer % 256) as u8;
-    match outcome {
-        0 => tell_number(rt, b"refusal ", answer / 256 % 256),
-        1 => tell(rt, b"forward"),
-        2 => tell(rt, b"drop"),
-        3 => tell_loop(rt, answer, out),
-        4 => tell_reply(rt, b"reply, ", answer, out),
-        5 => tell_reply(rt, b"reply and forward, ", answer, out),
-        6 => tell(rt, b"done"),
-        7..=255 => tell_number(rt, b"fault, reason ", answer / 256 % 256),
+impl fmt::Display for Hex<'_> {
+    fn fmt<W: fmt::Write>(&self, f: &mut fmt::Formatter<W>) -> fmt::Result {
+        for x in self.0 {
+            write!(f, " {x:02x}")?;
+        }
+        Ok(())
     }
 }

@@ -14,9 +14,8 @@ use Rattle.machine.specs.declared.Session.{Session}
 use Rattle.machine.specs.declared.Machine.{Machine}
 use Rattle.machine.specs.declared.Machine.TheVariants.{Inactive, Active}
 use Rattle.machine.specs.declared.Change.TheVariants.{Opened, Restarted, Closed}
-use Rattle.machine.specs.declared.Decided.{Decided}
 use Rattle.machine.specs.Table.{admit, report, restart, already, close}
-use Rattle.machine.specs.Machine.{key_of, is_open, lasting, good_seconds, same_mp}
+use Rattle.machine.specs.Machine.{Decision, key_of, is_open, lasting, good_seconds, same_mp}
 use Rattle.machine.specs.Machine.{answered, admitted, refreshed, restarted, closed, decided}
 use Rattle.state.specs.State.{State, is_allowed, good_session, machine_of}
 use Rattle.calls.proofs.Standing.{stands, good_parts, good_whole, open_time, time_open}
@@ -62,7 +61,7 @@ module _ (s : State) where
   module _ (k : ℕ) (all : every (good_session s) s.sessions ≡ true) (room seconds : ℕ) (new : Session)
       (space : eqb room 0 ≡ true → length s.sessions < 16) (place : stands s.plan new ≡ true)
       (may : is_allowed new.flow s ≡ true) (fresh : is_open new ≡ true) where
-    abbrev Good : Decided → Type 0
+    abbrev Good : Decision → Type 0
     Good d = GoodChange s d.change
 
     no_change : (code : ℕ) → Good (answered code)

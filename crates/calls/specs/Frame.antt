@@ -14,11 +14,10 @@ use Rattle.machine.specs.declared.Session.{Session}
 use Rattle.machine.specs.declared.Machine.{Machine}
 use Rattle.machine.specs.declared.Change.{Change}
 use Rattle.machine.specs.declared.Change.TheVariants.{Same, Opened, Restarted, Closed}
-use Rattle.machine.specs.declared.Decided.{Decided}
 use Rattle.machine.specs.declared.Fate.{Fate}
 use Rattle.machine.specs.declared.Fate.TheVariants.{Forward, Drop, Loop}
 use Rattle.machine.specs.Table.{Event, rqst_activate, rqst_deactivate, rqst_state, action_of}
-use Rattle.machine.specs.Machine.{key, key_of, condition_of, decided, fate_of, data_event, status_of}
+use Rattle.machine.specs.Machine.{Decision, key, key_of, condition_of, decided, fate_of, data_event, status_of}
 use Rattle.plan.specs.declared.Port.{Port}
 use Rattle.plan.specs.declared.Flow.{Flow}
 use Rattle.plan.specs.Plan.{Plan, port_numbered, flow_of_set, in_plan, mp_at, mip, faces}
@@ -127,7 +126,7 @@ replied s a whom code copies =
     (reply_pdu (level_of (pdu a)) (type_of (pdu a)) code a.port.address (status_of (own s a)) copies))
 
 -- REQUEST-14: the machine answers a request of type 1, 2 or 3.
-unfoldable pub decides : State → Arrived → Event → ℕ → Decided
+unfoldable pub decides : State → Arrived → Event → ℕ → Decision
 decides s a e seconds = decided (own_action s a e) (full_for a.flow s) seconds (new_session a) (own s a)
 
 -- REQUEST-14, REPLY-14: the reply has the machine's code and copies the unknown TLVs.

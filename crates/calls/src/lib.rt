@@ -6,6 +6,8 @@ ghost use Rattle.calls.specs.Answer.{number_of, packed};
 
 // What a call answers. Lengths are those of the octets written; a notice has its session's port and side; a plan fault has its
 // line and its reason.
+// Stays numbers, a refusal and a reason: FORM-8 (docs/RULES.md) has one definition give the number of every case, `number_of`, and the
+// theorems on calls say refusals and faults by their numbers.
 #[derive(Clone, Copy)]
 pub enum Answer {
     Refused(u8),

@@ -5,7 +5,7 @@ use mathlib.Core.List.{List}
 use Prim.Native.Nat.{ℕ, zero, suc, ◌^◌, ◌<◌}
 use native.Mathlib.Omega.{arith}
 use lib.Dec.{eqb}
-use borrow.Author.Tests.{eq-eqb, ne_eqb}
+use Rattle.std.specs.Prelude.{Option, Result, Ok, Err}
 use Rattle.octets.proofs.Cases.{by_eq}
 use Rattle.codec.specs.declared.Status.{Status}
 use Rattle.codec.specs.declared.Addressed.{Addressed}
@@ -15,14 +15,14 @@ use Rattle.machine.specs.declared.Session.{Session}
 use Rattle.machine.specs.declared.Machine.{Machine}
 use Rattle.machine.specs.declared.Machine.TheVariants.{Inactive, Active}
 use Rattle.machine.specs.declared.Change.TheVariants.{Same}
-use Rattle.machine.specs.declared.Decided.{Decided}
+use Rattle.machine.specs.declared.codes.Code.{Code}
 use Rattle.machine.specs.Table.{Event, admit, condition_number, event_number, event_at, action_of, action_at}
-use Rattle.machine.specs.Machine.{condition_of, answered, decided, after, status_of}
+use Rattle.machine.specs.Machine.{Decision, numbered, condition_of, answered, decided, after, status_of}
 use Rattle.machine.proofs.Laws.{action_at_lem}
 use Rattle.plan.specs.declared.Flow.{Flow}
 use Rattle.state.specs.State.{State, valid, is_allowed, machine_of, full_for, notice_due}
 use Rattle.state.specs.Image.{image, state_of}
-use Rattle.state.specs.Rows.{session_at}
+use Rattle.state.specs.Rows.{row_found, session_at}
 use Rattle.state.proofs.ImageLaws.{ok_valid}
 use Rattle.calls.specs.declared.Answer.{Answer}
 use Rattle.calls.specs.declared.Answer.TheVariants.{Replied, RepliedForwarded}
@@ -30,7 +30,7 @@ use Rattle.calls.specs.Answer.{sends}
 use Rattle.calls.specs.Frame.{Arrived, own_key, own, own_action, new_session, replied, changed, decides}
 use Rattle.calls_requests.specs.declared.Asked.{Asked}
 use Rattle.calls_requests.specs.declared.Arrival.{Arrival}
-use Rattle.calls_requests.specs.Arrival.{Known, Placed, Served, arrived_in, onward, asked_of, decision}
+use Rattle.calls_requests.specs.Arrival.{Known, Placed, Served, arrived_in, onward, asked_of, settled, decision}
 use Rattle.calls_requests.proofs.Arrivals.{source_is}
 use Rattle.calls_requests.proofs.Changes.{Fitting, Puts, own_changed, put_fits, decided_puts}
 use Rattle.calls_requests.proofs.Answered.{reply_to, replied_served}
@@ -53,7 +53,7 @@ module _ (s : State) (x : Arrived) where
   unfolding decided
   full_alike action seconds new m told = by_eq action admit (λ t e. rw (told x.flow, t)) (λ t e. rw t)
 
-  decides_right : (m : Machine) (event seconds : ℕ) {new : Session} {condition action full : ℕ} {r : Decided} → event < 3
+  decides_right : (m : Machine) (event seconds : ℕ) {new : Session} {condition action full : ℕ} {r : Decision} → event < 3
       → is_allowed x.flow.number s ≡ true → m ≡ own s x → new ≡ new_session x → condition ≡ condition_number (condition_of true m)
       → action ≡ action_at condition event → ((f : Flow) → full ≡ cond (eqb action admit) (full_for f s) 0)
       → r ≡ decided action full seconds new m → r ≡ decides s x (event_at event) seconds
@@ -64,49 +64,46 @@ module _ (s : State) (x : Arrived) where
       = ap (action_at (condition_number (condition_of true m))) (event_there event h) ∙ action_at_lem (condition_of true m) e in
       rw (ea, ← em) (rw (et, ec, t, en) at (ed ∙ full_alike action seconds new m er))
 
-  module _ (request : Request) {q : Asked} (eq : q ≡ asked_of request) where
-    pub fault_right : (q.fault ≡ 0 → ⊥) → record { code = q.fault; change = Same } ≡ decision s x request
-    unfolding decision answered
-    fault_right h = rw (← eq, ne_eqb _ _ h)
+  pub fault_right : (request : Request) (code : Code) → Err code ≡ asked_of request
+      → numbered (record { code = code; change = Same }) ≡ decision s x request
+  unfolding decision settled answered
+  fault_right request code eq = rw (← eq)
 
-    pub decision_right : (m : Machine) {new : Session} {condition action full : ℕ} {r : Decided} → q.fault ≡ 0 → q.event < 3
-        → is_allowed x.flow.number s ≡ true → m ≡ own s x → new ≡ new_session x
-        → condition ≡ condition_number (condition_of true m) → action ≡ action_at condition q.event
-        → ((f : Flow) → full ≡ cond (eqb action admit) (full_for f s) 0) → r ≡ decided action full q.seconds new m
-        → r ≡ decision s x request
-    unfolding decision
-    decision_right m none h ea em en ec et er ed =
-        rw (← eq, eq-eqb _ _ none) (decides_right m q.event q.seconds h ea em en ec et er ed)
+  pub decision_right : (request : Request) (q : Asked) (m : Machine) {new : Session} {condition action full : ℕ} {r : Decision}
+      → Ok q ≡ asked_of request → q.event < 3 → is_allowed x.flow.number s ≡ true → m ≡ own s x → new ≡ new_session x
+      → condition ≡ condition_number (condition_of true m) → action ≡ action_at condition q.event
+      → ((f : Flow) → full ≡ cond (eqb action admit) (full_for f s) 0) → r ≡ decided action full q.seconds new m
+      → r ≡ decision s x request
+  unfolding decision settled
+  decision_right request q m eq h ea em en ec et er ed = rw (← eq) (decides_right m q.event q.seconds h ea em en ec et er ed)
 
   decision_puts : valid s ≡ true → notice_due s ≡ false → source x.frame < 2 ^ 48 → (request : Request)
       → Puts s x (decision s x request).change
-  unfolding decision answered
-  decision_puts v quiet fits request = go (eqb (asked_of request).fault 0)
+  unfolding decision settled answered
+  decision_puts v quiet fits request = go (asked_of request)
     where
-      go : (asked : Bool)
-          → Puts s x (cond asked (decides s x (event_at (asked_of request).event) (asked_of request).seconds)
-          (answered (asked_of request).fault)).change
-      go true = decided_puts s x v quiet fits (event_at (asked_of request).event) (asked_of request).seconds
-      go false = tt
+      go : (q : Result Asked Code) → Puts s x (settled s x q).change
+      go (Ok q) = decided_puts s x v quiet fits (event_at q.event) q.seconds
+      go (Err code) = tt
 
-module _ {b : List ℕ} {a : Arrival} {frame : List ℕ} (k : Known b a frame) (oam : soam a.taglen frame ≡ true) (request : Request) {d : Decided} (ed : d ≡ decision (state_of b) (arrived_in b a frame) request) where
+module _ {b : List ℕ} {a : Arrival} {frame : List ℕ} (k : Known b a frame) (oam : soam a.taglen frame ≡ true) (request : Request) {d : Decision} (ed : d ≡ decision (state_of b) (arrived_in b a frame) request) where
   puts : Puts (state_of b) (arrived_in b a frame) d.change
   unfolding arrived_in
   puts =
       rw ed
       (decision_puts (state_of b) (arrived_in b a frame) (ok_valid b k.ok) k.quiet (rw (source_is k) at k.source_fits) request)
 
-  pub change_placed : {key row : ℕ} → key ≡ own_key (arrived_in b a frame) → row ≡ session_at key b
+  pub change_placed : {key : ℕ} {row : Option ℕ} → key ≡ own_key (arrived_in b a frame) → row ≡ row_found (session_at key b)
       → (y : Session) → after d.change Inactive ≡ Active y → Placed b row y
   change_placed ek er y e =
       let f : Fitting (state_of b) (arrived_in b a frame) y = put_fits (state_of b) (arrived_in b a frame) d.change puts y e in
       record {
         source_fits = f.source_fits;
-        found = er ∙ ap (λ (n : ℕ). session_at n b) (ek ∙ sym f.keyed);
+        found = er ∙ ap (λ (n : ℕ). row_found (session_at n b)) (ek ∙ sym f.keyed);
         room = f.room;
       }
 
-  pub decision_replied : (whom : Addressed) (on : Bool) {key : ℕ} {m : Machine} (status : Status) (copies : List ℕ) {r : Answer}
+  pub decision_replied : (whom : Addressed) (on : Bool) {key : ℕ} {m : Machine} (status : Option Status) (copies : List ℕ) {r : Answer}
       {left before later : List ℕ} → on ≡ onward a whom → key ≡ own_key (arrived_in b a frame)
       → m ≡ machine_of key (state_of b).sessions → left ≡ image (changed key d.change (state_of b))
       → status ≡ status_of (after d.change m)

@@ -5,6 +5,7 @@ use mathlib.Core.Logic.{◌⊎◌, inl, inr}
 use mathlib.Core.List.{List}
 use Prim.Native.Nat.{ℕ, ◌≤◌}
 use lib.ListN.{length}
+use Rattle.std.specs.Prelude.{Option}
 use Rattle.octets.specs.Lists.{put}
 use Rattle.machine.specs.declared.Session.{Session}
 use Rattle.machine.specs.declared.Machine.TheVariants.{Inactive, Active}
@@ -13,7 +14,7 @@ use Rattle.machine.specs.declared.Change.TheVariants.{Same, Opened, Restarted, C
 use Rattle.machine.specs.Machine.{key_of, after}
 use Rattle.state.specs.State.{State, with_sessions}
 use Rattle.state.specs.Image.{image, state_of, ok_image}
-use Rattle.state.specs.Rows.{session_at}
+use Rattle.state.specs.Rows.{row_found, session_at}
 use Rattle.state.proofs.ImageLaws.{ok_valid, image_state}
 use Rattle.state_store.specs.StoredRows.{session_put, row_removed, session_removed}
 use Rattle.state_store.proofs.Images.{Laid, laid, put_image, removed_image}
@@ -40,7 +41,7 @@ module _ (b : List ℕ) (ok : ok_image b ≡ true) (key : ℕ) where
   same_left e = rw e (sym (image_state b ok))
 
   module _ {c : List ℕ} where
-    pub closed_left : {change : Change} {row : ℕ} → change ≡ Closed → row ≡ session_at key b → c ≡ row_removed row b
+    pub closed_left : {change : Change} {row : Option ℕ} → change ≡ Closed → row ≡ row_found (session_at key b) → c ≡ row_removed row b
         → c ≡ image (changed key change s)
     unfolding changed session_removed
     closed_left e er h = rw e (rw er at h ∙ ap (session_removed key) (sym (image_state b ok)) ∙ removed_image s rows key)

@@ -13,9 +13,8 @@ use Rattle.codec.specs.declared.Request.TheVariants.{Malformed, Reserved, Activa
 use Rattle.codec.specs.FrameSet.{destination, soam, pdu_of}
 use Rattle.codec_tlvs.specs.Tlv.{timers}
 use Rattle.codec.specs.Request.{type_of, tlvs_of, malformed, by_type, request_of, copies_of, read_of, copied}
-use Rattle.machine.specs.declared.Decided.{Decided}
 use Rattle.machine.specs.Table.{event_at}
-use Rattle.machine.specs.Machine.{answered}
+use Rattle.machine.specs.Machine.{Decision, answered}
 use Rattle.state.specs.State.{State, is_allowed}
 use Rattle.state.specs.Image.{state_of, ok_image}
 use Rattle.state.proofs.ImageLaws.{image_state}
@@ -24,7 +23,7 @@ use Rattle.calls.specs.declared.Answer.TheVariants.{Forwarded, Dropped}
 use Rattle.calls.specs.Answer.{leaves}
 use Rattle.calls.specs.Frame.{Arrived, pdu, own_key, changed, replied, machine_served, answers, request_served}
 use Rattle.calls_requests.specs.declared.Arrival.{Arrival}
-use Rattle.calls_requests.specs.Arrival.{Known, Served, arrived_in, onward, asked_of, decision}
+use Rattle.calls_requests.specs.Arrival.{Known, Served, arrived_in, onward, asked_of, settled, decision}
 use Rattle.calls_requests.proofs.Arrivals.{allowed_is, onward_is}
 use Rattle.calls_requests.proofs.Answered.{read_request, copied_read, copies_fit}
 
@@ -40,7 +39,7 @@ answers_decision : (s : State) (x : Arrived) (whom : Addressed) (bad : Bool) (ki
     → answers s x whom (cond bad Malformed (by_type kind seconds))
     ≡ replied (changed (own_key x) (decision s x (cond bad Malformed (by_type kind seconds))).change s) x whom
     (decision s x (cond bad Malformed (by_type kind seconds))).code (cond bad [] (copies_of (pdu x)))
-unfolding answers machine_served decision asked_of answered changed by_type event_at
+unfolding answers machine_served decision settled asked_of answered changed by_type event_at
 answers_decision s x whom true kind seconds = refl
 answers_decision s x whom false kind seconds = go (eqb kind 1) (eqb kind 2) (eqb kind 3)
   where
@@ -64,7 +63,7 @@ module _ (b : List ℕ) (a : Arrival) (frame : List ℕ) (whom : Addressed) {r :
       copies_fit whom (destination frame) (pdu_of a.taglen frame) read a.taglen few
       (omega (arith, length-drop (14 + a.taglen) frame))
 
-  pub answers_served : {d : Decided} {n : Answer} {left before later : List ℕ}
+  pub answers_served : {d : Decision} {n : Answer} {left before later : List ℕ}
       → d ≡ decision (state_of b) (arrived_in b a frame) r.request
       → Served (replied (changed (own_key (arrived_in b a frame)) d.change (state_of b)) (arrived_in b a frame) whom d.code
       (copied r.copies (pdu_of a.taglen frame)))

@@ -1,5 +1,5 @@
 -- Requests (REQUEST): what the code of a call is asked and what it leaves: a frame that arrived, and a call that was served.
-use Rattle.std.specs.Prelude.{◌≡◌, Bool, true, false, cond, List, ℕ, ◌+◌, ◌^◌, ◌<◌, ◌≤◌, eqb, length, drop}
+use Rattle.std.specs.Prelude.{◌≡◌, Bool, true, false, List, Option, ℕ, ◌+◌, ◌^◌, ◌<◌, ◌≤◌, eqb, length, drop, Result, Ok, Err}
 use Rattle.octets.specs.Octets.{number, over}
 use Rattle.octets.specs.Lists.{put}
 use Rattle.codec.specs.declared.Addressed.{Addressed}
@@ -9,13 +9,14 @@ use Rattle.codec.specs.declared.Request.TheVariants.{Malformed, Reserved, Activa
 use Rattle.codec.specs.FrameSet.{soam}
 use Rattle.codec.specs.Request.{heading_of}
 use Rattle.machine.specs.declared.Session.{Session}
-use Rattle.machine.specs.declared.Decided.{Decided}
+use Rattle.machine.specs.declared.codes.Code.{Code}
+use Rattle.machine.specs.declared.codes.Code.TheVariants.{MalformedRequest, UnknownMessageType}
 use Rattle.machine.specs.Table.{event_at}
-use Rattle.machine.specs.Machine.{key_of, answered}
+use Rattle.machine.specs.Machine.{Decision, code_octet, key_of, answered}
 use Rattle.plan.specs.Plan.{flow_numbered, mip}
 use Rattle.state.specs.State.{State, notice_due}
 use Rattle.state.specs.Image.{image, state_of, ok_image}
-use Rattle.state.specs.Rows.{session_at}
+use Rattle.state.specs.Rows.{row_found, session_at}
 use Rattle.calls.specs.declared.Answer.{Answer}
 use Rattle.calls.specs.Answer.{Sent}
 use Rattle.calls.specs.Frame.{Arrived, mp_of, decides}
@@ -73,26 +74,28 @@ session_of a frame =
       notice = 0;
     }
 
--- a session that can be put into an image: this row is that of its key, or 0, and there is room for it
-pub record Placed (b : List ℕ) (row : ℕ) (x : Session) : Type 0 where
+-- a session that can be put into an image: this row is that of its key, if it has one, and there is room for it
+pub record Placed (b : List ℕ) (row : Option ℕ) (x : Session) : Type 0 where
   pub source_fits : x.source < 2 ^ 48
-  pub found : row ≡ session_at (key_of x) b
+  pub found : row ≡ row_found (session_at (key_of x) b)
   pub room : length (put key_of x (state_of b).sessions) ≤ 16
 
--- REQUEST-5, REQUEST-13, REQUEST-14: what a request asks: code 1 or 10 without the machine, or an event of the machine with its seconds.
--- (The event beside a code is of no account.)
-unfoldable pub asked_of : Request → Asked
-asked_of Malformed = record { fault = 1; event = 2; seconds = 0 }
-asked_of Reserved = record { fault = 10; event = 2; seconds = 0 }
-asked_of (Activate n) = record { fault = 0; event = 0; seconds = n }
-asked_of Deactivate = record { fault = 0; event = 1; seconds = 0 }
-asked_of StateRequest = record { fault = 0; event = 2; seconds = 0 }
+-- REQUEST-5, REQUEST-13, REQUEST-14: what a request asks: an event of the machine with its seconds; or code 1 or 10 without the machine.
+unfoldable pub asked_of : Request → Result Asked Code
+asked_of Malformed = Err MalformedRequest
+asked_of Reserved = Err UnknownMessageType
+asked_of (Activate n) = Ok (record { event = 0; seconds = n })
+asked_of Deactivate = Ok (record { event = 1; seconds = 0 })
+asked_of StateRequest = Ok (record { event = 2; seconds = 0 })
+
+-- REQUEST-14: the machine decides what it is asked; else the reply has that code, and nothing changes.
+unfoldable pub settled : State → Arrived → Result Asked Code → Decision
+settled s a (Ok q) = decides s a (event_at q.event) q.seconds
+settled s a (Err code) = answered (code_octet code)
 
 -- REQUEST-5, REQUEST-13, REQUEST-14: the code of its reply, and what becomes of the session.
-unfoldable pub decision : State → Arrived → Request → Decided
-decision s a r =
-    let q = asked_of r in
-    cond (eqb q.fault 0) (decides s a (event_at q.event) q.seconds) (answered q.fault)
+unfoldable pub decision : State → Arrived → Request → Decision
+decision s a r = settled s a (asked_of r)
 
 -- a call that was served: its answer, the image after it, and the output before and after it
 pub record Served (x : Sent) (answer : Answer) (left before after : List ℕ) : Type 0 where

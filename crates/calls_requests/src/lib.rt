@@ -27,11 +27,9 @@ pub struct Arrival {
     pub heading: Heading,
 }
 
-// What a request asks of its machine: its column of the table, and its seconds. One that no machine is asked has the code of its
-// reply as `fault`, which is 0 of any other.
+// What a request asks of its machine: its column of the table, and its seconds.
 #[derive(Clone, Copy)]
 pub struct Asked {
-    pub fault: u8,
     pub event: usize,
     pub seconds: u32,
 }

@@ -12,10 +12,8 @@ pub fn tag_of(taglen: usize, frame: &[u8]) -> u64
     ensures { result ≡ number taglen (drop 12 frame.now) }
 {
     let mut n: u64 = 0;
-    let mut i: usize = 0;
-    while i < taglen {
-        n = n * 256 + frame[12 + i] as u64;
-        i += 1;
+    for x in &frame[12..12 + taglen] {
+        n = n * 256 + u64::from(*x);
     }
     n
 }

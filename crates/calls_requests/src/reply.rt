@@ -3,6 +3,7 @@ ghost use Rattle.std.specs.Prelude.{◌≡◌, cond, ◌+◌, ◌<◌, ◌≤◌
 ghost use Rattle.codec.specs.FrameSet.{pdu_of};
 ghost use Rattle.codec.specs.Request.{copied};
 ghost use Rattle.codec_replies.specs.Reply.{reply_frame, reply_pdu, tag_of};
+ghost use Rattle.machine.specs.Machine.{code_octet};
 ghost use Rattle.state.specs.State.{State};
 ghost use Rattle.state.specs.Image.{image};
 ghost use Rattle.calls.specs.declared.Answer.TheVariants.{Replied, RepliedForwarded};
@@ -13,6 +14,7 @@ use crate::Arrival;
 use calls::Answer;
 use codec::Status;
 use codec_replies::{ReplyFields, put_reply_frame};
+use machine::Code;
 
 // The answer of a reply of so many octets; `on` is whether the request goes on to others.
 fn answer_of(on: bool, n: u32) -> Answer
@@ -30,8 +32,8 @@ pub fn reply(
     a: Arrival,
     frame: &[u8],
     on: bool,
-    code: u8,
-    status: Status,
+    code: Code,
+    status: Option<Status>,
     copies: usize,
 ) -> Answer
     requires taglen_bound { (a.taglen ≤ 4) × ((14 + a.taglen ≤ length frame.now) × (a.heading.level < 8)) }
@@ -40,7 +42,7 @@ pub fn reply(
     ensures { (s : State) → Served
         (sends (cond on RepliedForwarded Replied) s
         (reply_frame a.heading.source a.replier (tag_of a.taglen frame.now)
-        (reply_pdu a.heading.level a.heading.kind code a.port.address status
+        (reply_pdu a.heading.level a.heading.kind (code_octet code) a.port.address status
         (copied copies (pdu_of a.taglen frame.now)))))
         result (image s) out.old out.new }
 {
@@ -49,7 +51,7 @@ pub fn reply(
     let fields = ReplyFields {
         level: h.level,
         kind: h.kind,
-        code,
+        code: code.octet(),
         port: port.address,
         status,
     };

@@ -15,7 +15,7 @@ use calls::Answer;
 use codec::Addressed;
 use machine::{key, status_after};
 use plan::MIP;
-use state::{allows, machine_at, session_at, wide};
+use state::{Image, allows, machine_at, session_at, wide};
 
 // Does the request go on to others, past a MIP?
 fn goes_on(a: Arrival, whom: Addressed) -> bool
@@ -29,7 +29,7 @@ fn goes_on(a: Arrival, whom: Addressed) -> bool
 }
 
 // The request read and answered, on an allowed flow: the change is written, and the reply says how the machine is then.
-fn answers(b: &mut [u8], a: Arrival, frame: &[u8], out: &mut [u8], whom: Addressed) -> Answer
+fn answers(b: &mut Image, a: Arrival, frame: &[u8], out: &mut [u8], whom: Addressed) -> Answer
     requires known { (Known b.old a frame.now) × (2008 ≤ length out.old) }
     requires allowed { (is_allowed a.flow (state_of b.old) ≡ true)
         × ((26 + a.taglen ≤ length frame.now) × (soam a.taglen frame.now ≡ true)) }
@@ -58,7 +58,7 @@ fn answers(b: &mut [u8], a: Arrival, frame: &[u8], out: &mut [u8], whom: Address
 }
 
 pub fn serve_request(
-    image: &mut [u8],
+    image: &mut Image,
     a: Arrival,
     frame: &[u8],
     out: &mut [u8],

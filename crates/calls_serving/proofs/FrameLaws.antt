@@ -1,18 +1,18 @@
 -- A frame, from its port to whom it is for, read from its parts as the code reads them.
 use mathlib.Core.Path.{◌≡◌, sym, ap, ◌∙◌}
-use mathlib.Core.Bool.{Bool, true, false, cond}
+use mathlib.Core.Bool.{Bool, true, false, cond, ◌||◌, true≢false}
 use mathlib.Core.List.{List, [], ◌∷◌}
 use Prim.Native.Nat.{ℕ, ◌+◌, ◌-◌, ◌^◌, ◌<◌, ◌≤◌}
 use lib.ListN.{length, length-drop}
 use native.Mathlib.Omega.{arith}
 use lib.Dec.{eqb}
 use borrow.Author.Tests.{le-leb, lt-leb}
-use Rattle.octets.specs.Lists.{within, every, first}
+use Rattle.std.specs.Prelude.{Option, Some, None, is_some}
+use Rattle.octets.specs.Lists.{within, every, some, first}
 use Rattle.octets.proofs.Same.{both_true}
-use Rattle.octets.proofs.ListLaws.{within_high}
+use Rattle.octets.proofs.ListLaws.{within_low, within_high}
 use Rattle.codec.specs.declared.FrameSet.{FrameSet}
 use Rattle.codec.specs.declared.Place.{Place}
-use Rattle.codec.specs.declared.Place.TheVariants.{NoSet, InSet}
 use Rattle.codec.specs.declared.Addressed.{Addressed}
 use Rattle.codec.specs.declared.Addressed.TheVariants.{Elsewhere}
 use Rattle.codec.specs.FrameSet.{only, sets_of, sets_in, source, soam, pdu_of}
@@ -24,8 +24,8 @@ use Rattle.plan.specs.declared.Port.{Port}
 use Rattle.plan.specs.declared.Flow.{Flow}
 use Rattle.plan.specs.Plan.{no_flow, port_numbered, flow_numbered, flow_key, set_key, flow_of_set, in_plan, mp_at, faces}
 use Rattle.state.specs.Image.{state_of}
-use Rattle.state.specs.Rows.{flow_at, flow_of_row}
-use Rattle.state.proofs.Answers.{flow_found}
+use Rattle.state.specs.Rows.{row_found, flow_at, flow_of_row}
+use Rattle.state.proofs.Answers.{flow_found, flow_there}
 use Rattle.state.proofs.ImageLaws.{ok_valid}
 use Rattle.state.proofs.Rules.{valid_parts}
 use Rattle.state.proofs.PlaceLaws.{ok_numbers}
@@ -100,7 +100,21 @@ number_few sought (f ∷ fs) all =
     go true here there = here
     go false here there = there
 
-module _ (b : List ℕ) (own : Port) (side : ℕ) (frame out : List ℕ) (k : Fair b side frame out) (place : Place)
+-- one that is found has some number
+number_some : (sought : Flow → Bool) (fs : List Flow) → every (λ f. within 1 32 f.number) fs ≡ true → some sought fs ≡ true
+    → 1 ≤ (first sought no_flow fs).number
+unfolding first every some
+number_some sought [] all there = absurd (true≢false (sym there))
+number_some sought (f ∷ fs) all there =
+    let t : _ = both_true (within 1 32 f.number) (every (λ f. within 1 32 f.number) fs) all in
+    go (sought f) (within_low 1 32 f.number t.0) (λ more. number_some sought fs t.1 more) there
+  where
+    go : (s : Bool) → 1 ≤ f.number → (some sought fs ≡ true → 1 ≤ (first sought no_flow fs).number)
+        → (s || some sought fs) ≡ true → 1 ≤ (cond s f (first sought no_flow fs)).number
+    go true here further more = here
+    go false here further more = further more
+
+module _ (b : List ℕ) (own : Port) (side : ℕ) (frame out : List ℕ) (k : Fair b side frame out) (place : Option Place)
     (placed : sets_in place ≡ sets_of own.kind frame) where
   abbrev Serves : Answer → List ℕ → List ℕ → Type 0
   Serves answer left after =
@@ -111,27 +125,35 @@ module _ (b : List ℕ) (own : Port) (side : ℕ) (frame out : List ℕ) (k : Fa
   unfolding frame_served
   in_sets_lem n known = rw (placed, known)
 
-  pub no_set : place ≡ NoSet → Serves Forwarded b out
+  pub no_set : place ≡ None → Serves Forwarded b out
   unfolding in_sets sets_in
   no_set e n known = rw (in_sets_lem n known, e) (stays Forwarded out k.ok)
 
-  module _ {set : FrameSet} {taglen row number : ℕ} (inside : place ≡ InSet set taglen)
-      (at : row ≡ flow_at own.number set b) (read : number ≡ (flow_of_row row b).number) where
+  module _ {set : FrameSet} {taglen : ℕ} {row : Option ℕ} (inside : place ≡ Some (record { set = set; taglen = taglen }))
+      (at : row ≡ row_found (flow_at own.number set b)) where
     pub there : sets_of own.kind frame ≡ only set taglen
     unfolding sets_in
     there = sym placed ∙ rw inside
 
     flow_of_lem : flow_of_row row b ≡ flow_of_set own.number set (state_of b).plan
-    flow_of_lem = ap (λ (r : ℕ). flow_of_row r b) at ∙ flow_found b own.number set
+    flow_of_lem = ap (λ (r : Option ℕ). flow_of_row r b) at ∙ flow_found b own.number set
 
-    pub no_flow_lem : number ≡ 0 → Serves Forwarded b out
-    unfolding in_sets sets_in in_flow in_plan arrived_at
+    pub no_flow_lem : row ≡ None → Serves Forwarded b out
+    unfolding in_sets sets_in in_flow in_plan arrived_at flow_of_row no_flow
     no_flow_lem e n known =
+        let none : no_flow ≡ flow_of_set own.number set (state_of b).plan = rw e at flow_of_lem in
         rw (in_sets_lem n known, inside)
-        (simp (lt-leb 1 (flow_of_set own.number set (state_of b).plan).number (omega (arith, read, e, ap (λ (f : Flow). f.number) flow_of_lem)))
+        (simp (lt-leb 1 (flow_of_set own.number set (state_of b).plan).number (omega (arith, ap (λ (f : Flow). f.number) none)))
         (stays Forwarded out k.ok))
 
-    module _ (some : number ≡ 0 → ⊥) {h : Heading} {mp : ℕ} (heading : h ≡ heading_of taglen frame) (mped : mp ≡ mp_at h.level (flow_of_row row b))
+    pub flow_some : is_some row ≡ true → 1 ≤ (flow_of_row row b).number
+    unfolding flow_of_set
+    flow_some e =
+        rw flow_of_lem
+        (number_some (λ f. eqb (flow_key f) (set_key own.number set.kind set.vid)) (state_of b).plan.flows
+        (ok_numbers b k.ok) (sym (flow_there b own.number set at) ∙ e))
+
+    module _ {number : ℕ} (read : number ≡ (flow_of_row row b).number) (some : number ≡ 0 → ⊥) {h : Heading} {mp : ℕ} (heading : h ≡ heading_of taglen frame) (mped : mp ≡ mp_at h.level (flow_of_row row b))
       where
         abbrev arrival : Arrival
         arrival =

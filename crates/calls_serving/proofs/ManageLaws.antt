@@ -7,11 +7,10 @@ use lib.ListN.{set}
 use Rattle.octets.specs.Octets.{low_octets, splice}
 use Rattle.machine.specs.declared.Session.{Session}
 use Rattle.machine.specs.declared.Machine.TheVariants.{Inactive}
-use Rattle.machine.specs.declared.Sweep.TheVariants.{Ticked, Managed}
 use Rattle.machine.specs.Table.{Event, action_of, action_at, event_at, condition_number, condition_at}
 use Rattle.machine.specs.Machine.{activity, condition_of}
 use Rattle.machine.specs.Management.{managed_by, allowed_after}
-use Rattle.machine.specs.Time.{elapsed, ticked, swept}
+use Rattle.machine.specs.Time.{elapsed, ticked}
 use Rattle.state.specs.State.{State, with_sessions, is_allowed, with_allowed, with_clock}
 use Rattle.state.specs.Image.{bit, image, state_of, ok_image}
 use Rattle.state.proofs.Rules.{valid_parts}
@@ -53,8 +52,8 @@ module _ (b : List ℕ) (ok : ok_image b ≡ true) where
       ey ∙ rw ex (allowed_image (with_sessions xs s) n a (valid_parts s (ok_valid b ok)).allowed_length low high)
 
   pub ticked_there : (clock : ℕ) {last passed : ℕ} {x y : List ℕ} → last ≡ s.clock → passed ≡ elapsed clock last
-      → x ≡ sessions_mapped (swept (Ticked passed)) b → y ≡ splice 0 (low_octets 4 clock) x → y ≡ image (ticked_to clock s)
-  unfolding ticked_to with_sessions with_clock swept
+      → x ≡ sessions_mapped (ticked passed) b → y ≡ splice 0 (low_octets 4 clock) x → y ≡ image (ticked_to clock s)
+  unfolding ticked_to with_sessions with_clock
   ticked_there clock {last} {passed} el ep ex ey =
       let e : passed ≡ elapsed clock s.clock = rw el at ep in
       let at : sessions_mapped (ticked passed) b ≡ image (with_sessions (map (ticked (elapsed clock s.clock)) s.sessions) s)
@@ -68,9 +67,9 @@ module _ (b : List ℕ) (ok : ok_image b ≡ true) where
       clocked (with_sessions [] s) clock (ex ∙ ap sessions_cleared (sym same) ∙ cleared_image s lay) ey
 
   pub managed_there : (flow event : ℕ) {on : Bool} {act : ℕ} {x y : List ℕ} → 1 ≤ flow → flow ≤ 32
-      → on ≡ allowed_by (event_at event) flow s → act ≡ action_at 2 event → x ≡ sessions_mapped (swept (Managed act flow)) b
+      → on ≡ allowed_by (event_at event) flow s → act ≡ action_at 2 event → x ≡ sessions_mapped (managed_by act flow) b
       → y ≡ set x (31 + flow) (bit on) → y ≡ image (managed (event_at event) flow s)
-  unfolding managed with_sessions with_allowed swept action_at condition_at
+  unfolding managed with_sessions with_allowed action_at condition_at
   managed_there flow event {on} {act} low high eo ea ex ey =
       let f : Session → Session = managed_by act flow in
       rw (eo, ea) at

@@ -8,6 +8,7 @@ use native.Mathlib.Omega.{arith}
 use lib.ListN.{length, take, drop, length-append}
 use lib.Seq.{take_all}
 use borrow.Rule.Slice.PartMut.{mid_of, put_mid}
+use Rattle.std.specs.Prelude.{Option}
 use Rattle.octets.specs.Octets.{octets, over}
 use Rattle.octets.specs.Lists.{within}
 use Rattle.octets.proofs.Laws.{octets_length}
@@ -21,7 +22,7 @@ use Rattle.plan.specs.declared.Port.{Port}
 use Rattle.plan.specs.Plan.{port_numbered}
 use Rattle.state.specs.State.{State, first_owed}
 use Rattle.state.specs.Image.{state_of, ok_image}
-use Rattle.state.specs.Rows.{session_at, numbered_at, flow_of_row}
+use Rattle.state.specs.Rows.{row_found, session_at, numbered_at, flow_of_row}
 use Rattle.state.proofs.ImageLaws.{ok_valid, image_state}
 use Rattle.state.proofs.PlaceLaws.{numbered_flow, ok_places, ok_numbers}
 use Rattle.state_store.specs.StoredRows.{row_removed, session_removed}
@@ -101,15 +102,15 @@ module _ (port : Port) (x : Session) (o : List ℕ)
 -- ---- the port, and the call
 
 module _ (l : List ℕ) (ok : ok_image l ≡ true) where
-  pub port_found : (x : Session) {row number : ℕ} {p : Port} → row ≡ numbered_at x.flow l → number ≡ (flow_of_row row l).port
+  pub port_found : (x : Session) {row : Option ℕ} {number : ℕ} {p : Port} → row ≡ row_found (numbered_at x.flow l) → number ≡ (flow_of_row row l).port
       → p ≡ port_numbered number (state_of l).plan → p ≡ port_of (state_of l) x
   unfolding port_of
   port_found x er en ep = rw (ep, en, er, numbered_flow l (ok_places l ok) (ok_numbers l ok) x.flow)
 
-  pub notice_taken : {x : Session} {p : Port} {n row : ℕ} {left out out' : List ℕ} → x ≡ first_owed (state_of l)
+  pub notice_taken : {x : Session} {p : Port} {n : ℕ} {row : Option ℕ} {left out out' : List ℕ} → x ≡ first_owed (state_of l)
       → p ≡ port_of (state_of l) x
       → (n ≡ length (notice_frame p x)) × (out' ≡ over (notice_frame p x) out)
-      → row ≡ session_at (key_of x) l → left ≡ row_removed row l
+      → row ≡ row_found (session_at (key_of x) l) → left ≡ row_removed row l
       → Served (notice_served (state_of l)) (Noticed p.number x.side n) left out out'
   unfolding notice_served noticed sends session_removed
   notice_taken {x} ex ep (en, eo) er el =

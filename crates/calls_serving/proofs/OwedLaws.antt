@@ -4,9 +4,9 @@ use mathlib.Core.Bool.{Bool, true, not, ◌&&◌, true≢false}
 use mathlib.Core.List.{List}
 use Prim.Native.Nat.{ℕ, ◌^◌, ◌<◌, ◌≤◌}
 use native.Mathlib.Omega.{arith}
-use lib.Dec.{eqb, ltb}
+use lib.Dec.{ltb}
 use lib.ListN.{length, drop, get_or-eq_default}
-use borrow.Author.Tests.{eq-eqb}
+use Rattle.std.specs.Prelude.{Option, is_some}
 use Rattle.octets.proofs.Same.{both_true}
 use Rattle.octets.proofs.Cases.{by_lt}
 use Rattle.codec.specs.FrameSet.{group, set_of, tag_fits}
@@ -18,7 +18,7 @@ use Rattle.plan.proofs.Kept.{rules}
 use Rattle.plan.proofs.Found.{flow_passes}
 use Rattle.state.specs.State.{State, is_allowed, good_time, good_session, valid, first_owed}
 use Rattle.state.specs.Image.{session_in, state_of}
-use Rattle.state.specs.Rows.{session_at, owed_at}
+use Rattle.state.specs.Rows.{row_found, session_at, owed_at}
 use Rattle.state.proofs.Rules.{Valid, valid_parts}
 use Rattle.state.proofs.Fits.{good_flow_lem, good_fits, tag_fits_lem}
 use Rattle.state.proofs.ImageLaws.{ok_valid}
@@ -74,12 +74,11 @@ owed_fits {l} k e =
 
 -- ---- its row
 
-module _ {l out : List ℕ} (k : NoticeKnown l out) {row : ℕ} (e : row ≡ owed_at l) where
-  there : row ≡ 0 → ⊥
-  there z =
-      let due : not (eqb row 0) ≡ true = notice_found l e ∙ k.due in
-      true≢false (sym due ∙ rw (eq-eqb row 0 z))
+-- there is one
+pub owed_some : {l out : List ℕ} → NoticeKnown l out → {row : Option ℕ} → row ≡ row_found (owed_at l) → is_some row ≡ true
+owed_some {l} k e = notice_found l e ∙ k.due
 
+module _ {l out : List ℕ} (k : NoticeKnown l out) {row : ℕ} (e : row ≡ owed_at l) (there : row ≡ 0 → ⊥) where
   module _ {x : Session} (read : x ≡ session_in (drop row l)) where
     pub owed_is : x ≡ first_owed (state_of l)
     owed_is = read ∙ (owed_found l e).something there

@@ -11,17 +11,17 @@ use calls::Answer;
 use calls_requests::Arrival;
 use codec_replies::put_looped;
 use machine::{Fate, Machine, action, condition_of, data_event, fate_of, key};
-use state::{allows, machine_of, wide};
+use state::{Image, allows, machine_of, wide};
 
 // What the table says of a data frame from a side at a machine of a flow.
-fn data_action(image: &[u8], flow: u8, side: u8, m: Machine) -> u8
-    requires { (length image.now ≡ 4096) × ((1 ≤ flow) × (flow ≤ 32)) }
+fn data_action(image: &Image, flow: u8, side: u8, m: Machine) -> u8
+    requires { (1 ≤ flow) × (flow ≤ 32) }
     ensures { result ≡ action_of (condition_of (is_allowed flow (state_of image.now)) m) (data_event side) }
 {
     action(condition_of(allows(image, wide(flow)), m), data_event(side))
 }
 
-pub fn serve_data(image: &[u8], a: Arrival, frame: &[u8], out: &mut [u8]) -> Answer
+pub fn serve_data(image: &Image, a: Arrival, frame: &[u8], out: &mut [u8]) -> Answer
     requires { (Known image.now a frame.now) × (2008 ≤ length out.old) }
     ensures { Served (data_served (state_of image.now) (arrived_in image.now a frame.now))
         result image.now out.old out.new }

@@ -11,7 +11,7 @@ use calls::Answer;
 use calls_requests::{Arrival, serve_request};
 use codec::{Addressed, Place, addressed_to, heading_of, set_of, source_of};
 use plan::{Port, faces};
-use state::{flow_at, mp_of, number_of};
+use state::{Image, flow_at, mp_of, number_of};
 
 // Whom a frame is for, by what was read of it: an MP of its flow that faces its side, or nobody here.
 fn for_mp(a: Arrival, frame: &[u8]) -> Addressed
@@ -29,7 +29,7 @@ fn for_mp(a: Arrival, frame: &[u8]) -> Addressed
 }
 
 // A frame of a flow.
-fn serve_arrival(image: &mut [u8], a: Arrival, frame: &[u8], out: &mut [u8]) -> Answer
+fn serve_arrival(image: &mut Image, a: Arrival, frame: &[u8], out: &mut [u8]) -> Answer
     requires { (Known image.old a frame.now) × (2008 ≤ length out.old) }
     ensures { Served (by_whom (state_of image.old) (arrived_in image.old a frame.now)
         (for_mp (arrived_in image.old a frame.now)))
@@ -37,28 +37,28 @@ fn serve_arrival(image: &mut [u8], a: Arrival, frame: &[u8], out: &mut [u8]) -> 
 {
     let whom = for_mp(a, frame);
     match whom {
-        Addressed::Elsewhere => serve_data(&image[..], a, frame, out),
+        Addressed::Elsewhere => serve_data(image, a, frame, out),
         Addressed::Unicast | Addressed::Multicast => serve_request(image, a, frame, out, whom),
     }
 }
 
 // The port is the one that the frame arrived at.
-pub fn serve_frame(image: &mut [u8], port: Port, side: u8, frame: &[u8], out: &mut [u8]) -> Answer
+pub fn serve_frame(image: &mut Image, port: Port, side: u8, frame: &[u8], out: &mut [u8]) -> Answer
     requires { Fair image.old side frame.now out.old }
     ensures { (n : ℕ) → port ≡ port_numbered n (state_of image.old).plan
         → Served (frame_served (state_of image.old) n side frame.now)
         result image.new out.old out.new }
 {
     let sender = source_of(frame);
-    let Place::InSet(set, taglen) = set_of(port.kind, sender, frame) else {
+    let Some(Place { set, taglen }) = set_of(port.kind, sender, frame) else {
         return Answer::Forwarded; // in no set
     };
-    let row = flow_at(&image[..], port.number, set);
-    let flow = number_of(&image[..], row);
-    if flow == 0 {
+    let row = flow_at(image, port.number, set);
+    let Some(flow) = number_of(image, row) else {
         return Answer::Forwarded; // in no flow
-    }
+    };
     let heading = heading_of(taglen, sender, frame);
+    let mp = mp_of(image, row, heading.level);
     serve_arrival(
         image,
         Arrival {
@@ -68,7 +68,7 @@ pub fn serve_frame(image: &mut [u8], port: Port, side: u8, frame: &[u8], out: &m
             looper: port.address,
             side,
             flow,
-            mp: mp_of(&image[..], row, heading.level),
+            mp,
             taglen,
             heading,
         },

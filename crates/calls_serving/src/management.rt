@@ -10,23 +10,24 @@ ghost use Rattle.calls.specs.Calls.{ticked_to, managed, restarted_at};
 ghost use Rattle.calls_serving.specs.Preconditions.{ImageKnown, FlowKnown};
 
 use machine::{
-    ACTIVE, MGMT_ALLOW, MGMT_PROHIBIT, Machine, Sweep, action, allowed_after, condition_of, elapsed,
+    ACTIVE, MGMT_ALLOW, MGMT_PROHIBIT, Machine, action, allowed_after, condition_of, elapsed,
+    managed_by, ticked,
 };
-use state::{allows, clock_of};
+use state::{Image, allows, clock_of};
 use state_store::{clear_sessions, set_allowed, set_clock, sweep_sessions};
 
-pub fn tick_to(b: &mut [u8], clock: u32)
+pub fn tick_to(b: &mut Image, clock: u32)
     requires { ImageKnown b.old }
     ensures { b.new ≡ image (ticked_to clock (state_of b.old)) }
 {
     let passed = elapsed(clock, clock_of(b));
-    sweep_sessions(b, Sweep::Ticked(passed));
+    sweep_sessions(b, |x| ticked(passed, x));
     set_clock(b, clock);
 }
 
 // Is the flow allowed after an event of management? The table says it of the flow as one that has no session.
-fn allowed_by(b: &[u8], flow: usize, event: usize) -> bool
-    requires { (length b.now ≡ 4096) × ((1 ≤ flow) × ((flow ≤ 32) × (event < 8))) }
+fn allowed_by(b: &Image, flow: usize, event: usize) -> bool
+    requires { (1 ≤ flow) × ((flow ≤ 32) × (event < 8)) }
     ensures { result ≡ allowed_after
         (action_of (condition_of (is_allowed flow (state_of b.now)) Inactive) (event_at event))
         (is_allowed flow (state_of b.now)) }
@@ -36,31 +37,31 @@ fn allowed_by(b: &[u8], flow: usize, event: usize) -> bool
 }
 
 // An event of management at a flow, and at each open session of it.
-fn manage_flow(b: &mut [u8], flow: usize, event: usize)
+fn manage_flow(b: &mut Image, flow: usize, event: usize)
     requires { FlowKnown b.old flow × (event < 8) }
     ensures { b.new ≡ image (managed (event_at event) flow (state_of b.old)) }
 {
     let on = allowed_by(b, flow, event);
     let act = action(ACTIVE, event);
-    sweep_sessions(b, Sweep::Managed(act, flow as u16));
+    sweep_sessions(b, |x| managed_by(act, flow as u16, x));
     set_allowed(b, flow, on);
 }
 
-pub fn allow_flow(b: &mut [u8], flow: usize)
+pub fn allow_flow(b: &mut Image, flow: usize)
     requires { FlowKnown b.old flow }
     ensures { b.new ≡ image (managed mgmt_allow flow (state_of b.old)) }
 {
     manage_flow(b, flow, MGMT_ALLOW);
 }
 
-pub fn prohibit_flow(b: &mut [u8], flow: usize)
+pub fn prohibit_flow(b: &mut Image, flow: usize)
     requires { FlowKnown b.old flow }
     ensures { b.new ≡ image (managed mgmt_prohibit flow (state_of b.old)) }
 {
     manage_flow(b, flow, MGMT_PROHIBIT);
 }
 
-pub fn restart_at(b: &mut [u8], clock: u32)
+pub fn restart_at(b: &mut Image, clock: u32)
     requires { ImageKnown b.old }
     ensures { b.new ≡ image (restarted_at clock (state_of b.old)) }
 {

@@ -1,5 +1,5 @@
 // The first notice that is owed: its frame written, and its session taken out.
-ghost use Rattle.std.specs.Prelude.{◌≡◌, ◌+◌, ◌<◌, ◌≤◌, ◌^◌, length};
+ghost use Rattle.std.specs.Prelude.{◌≡◌, ◌+◌, ◌<◌, ◌≤◌, ◌^◌, length, IfSome};
 ghost use Rattle.octets.specs.Octets.{over};
 ghost use Rattle.state.specs.Image.{state_of};
 ghost use Rattle.state.specs.Rows.{flow_of_row};
@@ -12,22 +12,19 @@ use codec_replies::{put_bare, put_head};
 use machine::Session;
 use octets::octets4;
 use plan::Port;
-use state::{numbered_at, owed_at, port_numbered, read_session, wide};
+use state::{FLOW_PORT_AT, Image, numbered_at, owed_at, port_numbered, read_session, wide};
 use state_store::remove_session;
 
-// The port of the flow of a row, or 0.
-fn port_in(b: &[u8], row: usize) -> u8
-    requires { row + 32 ≤ length b.now }
+// The port of the flow of a row; of no row, 0.
+fn port_in(b: &[u8], row: Option<usize>) -> u8
+    requires { IfSome row (λ at. at + 32 ≤ length b.now) }
     ensures { result ≡ (flow_of_row row b.now).port }
 {
-    if row == 0 {
-        return 0;
-    }
-    b[row + 7]
+    row.map_or(0, |at| b[at + FLOW_PORT_AT])
 }
 
 // The port of a session's flow.
-fn port_of(b: &[u8], x: Session) -> Port
+fn port_of(b: &Image, x: Session) -> Port
     requires { ImageKnown b.now }
     ensures { result ≡ port_of (state_of b.now) x }
 {
@@ -46,12 +43,13 @@ fn put_notice(out: &mut [u8], port: Port, x: Session) -> usize
     n + put_bare(&mut out[n..], x.level, 0, 2, x.notice, port.address)
 }
 
-pub fn take_notice(b: &mut [u8], out: &mut [u8]) -> Answer
+pub fn take_notice(b: &mut Image, out: &mut [u8]) -> Answer
     requires { NoticeKnown b.old out.old }
     ensures { Served (notice_served (state_of b.old)) result b.new out.old out.new }
 {
     let row = owed_at(b);
-    let x = read_session(b, row);
+    let at = row.unwrap(); // as one is owed
+    let x = read_session(b, at);
     let port = port_of(b, x);
     let n = put_notice(out, port, x);
     remove_session(b, row);

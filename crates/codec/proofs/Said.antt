@@ -1,20 +1,23 @@
 -- A request is malformed by the first test that says so; else its summary has what it says. And what callers use of a reading.
-use mathlib.Core.Path.{◌≡◌, refl, ap, ◌∙◌}
+use mathlib.Core.Path.{◌≡◌, refl, ap}
 use mathlib.Core.Bool.{Bool, true, false, cond, not, ◌&&◌}
-use mathlib.Core.List.{List, [], ◌++◌}
-use Prim.Native.Nat.{ℕ, zero, suc, ◌+◌, ◌-◌, ◌≤◌}
+use mathlib.Core.List.{List, [], ◌∷◌, ◌++◌}
+use Prim.Native.Nat.{ℕ, ◌+◌, ◌-◌, ◌≤◌}
 use native.Mathlib.Omega.{arith}
-use lib.Dec.{eqb, leb}
+use lib.Dec.{eqb}
 use lib.ListN.{length, drop, length-drop, get_or-append}
 use lib.Seq.{drop-append-le}
-use borrow.Author.Tests.{le-leb, ne_eqb}
+use borrow.Author.Tests.{ne_eqb}
 use Rattle.octets.proofs.Cases.{by_eq}
 use Rattle.octets.proofs.Laws.{number_on}
+use Rattle.codec_tlvs.specs.declared.BadList.{BadList}
 use Rattle.codec_tlvs.specs.declared.Summary.{Summary}
+use Rattle.std.specs.Prelude.{is_some, unwrap_or, slice_get, Ok, Err}
+use Rattle.std.proofs.lemmas.Option.{unwrap_or-slice_get}
 use Rattle.codec_tlvs.specs.Tlv.{parse, timers, bad_list}
 use Rattle.codec_tlvs.specs.Walk.{summary_of}
 use Rattle.codec_tlvs.proofs.Short.{parse_short}
-use Rattle.codec_tlvs.proofs.After.{parse_on, summary_bad, summary_unknown, summary_timer}
+use Rattle.codec_tlvs.proofs.After.{parse_on, summary_bad, Says, summary_says}
 use Rattle.codec.specs.declared.Addressed.{Addressed}
 use Rattle.codec.specs.declared.Addressed.TheVariants.{Elsewhere, Unicast, Multicast}
 use Rattle.codec.specs.declared.Request.{Request}
@@ -40,32 +43,36 @@ module _ (whom : Addressed) (to : ℕ) (pdu : List ℕ) where
   bad_list_lem a b c = rw (a, b, c)
 
   -- the summary of the list that starts at the first TLV
-  module _ (from : ℕ) (s : Summary) (ef : from ≡ 4 + offset_of pdu) (es : s ≡ summary_of (parse (drop from pdu))) where
-    whole : s ≡ summary_of (tlvs_of pdu)
+  module _ (from : ℕ) (ef : from ≡ 4 + offset_of pdu) where
+    same_list : parse (drop from pdu) ≡ tlvs_of pdu
     unfolding tlvs_of
-    whole = es ∙ ap (λ (n : ℕ). summary_of (parse (drop n pdu))) ef
+    same_list = ap (λ (n : ℕ). parse (drop n pdu)) ef
 
-    pub says_bad : s.bad ≡ bad_list (tlvs_of pdu)
-    says_bad = rw whole (summary_bad (tlvs_of pdu))
+    pub says_bad : {e : BadList} → Err e ≡ summary_of (parse (drop from pdu)) → bad_list (tlvs_of pdu) ≡ true
+    says_bad h = summary_bad (tlvs_of pdu) (rw same_list at h)
 
-    module _ (kind : ℕ) (ek : kind ≡ type_of pdu) (c : bad_list (tlvs_of pdu) ≡ false) where
-      none : (n : ℕ) → not (leb 1 n) ≡ eqb n 0
-      none zero = refl
-      none (suc n) = rw (le-leb 1 (suc n) (omega arith), ne_eqb (suc n) 0 (λ z. absurd (omega arith)))
+    pub says_good : {s : Summary} → Ok s ≡ summary_of (parse (drop from pdu)) → Says (tlvs_of pdu) s
+    says_good h = summary_says (tlvs_of pdu) (rw same_list at h)
 
-      pub says_untimed : (eqb kind 1 && not s.timed) ≡ untimed pdu
-      unfolding untimed
-      says_untimed = rw (ek, whole, (summary_timer (tlvs_of pdu) c).0, none (length (timers (tlvs_of pdu).tlvs)))
+  module _ {s : Summary} (says : Says (tlvs_of pdu) s) {kind : ℕ} (ek : kind ≡ type_of pdu) where
+    none : (l : List ℕ) → not (is_some (slice_get l 0)) ≡ eqb (length l) 0
+    none [] = refl
+    none (x ∷ l) = rw (ne_eqb (length (x ∷ l)) 0 (λ z. absurd (omega arith)))
 
-      module _ (a : wrong_mac whom to pdu ≡ false) (b : wrong_offset pdu ≡ false) where
-        pub bad_untimed : untimed pdu ≡ true → bad_read ≡ read_of whom to pdu
-        unfolding read_of request_of malformed
-        bad_untimed d = rw (a, b, c, d)
+    pub says_untimed : (eqb kind 1 && not (is_some s.seconds)) ≡ untimed pdu
+    unfolding untimed
+    says_untimed = rw (ek, says.timer, none (timers (tlvs_of pdu).tlvs))
 
-        pub good : untimed pdu ≡ false → (r : Request) → r ≡ by_type kind s.seconds
-            → record { request = r; copies = s.unknown } ≡ read_of whom to pdu
-        unfolding read_of request_of malformed copies_of
-        good d r er = rw (er, ek, whole, (summary_timer (tlvs_of pdu) c).1, summary_unknown (tlvs_of pdu) c, a, b, c, d)
+    module _ (a : wrong_mac whom to pdu ≡ false) (b : wrong_offset pdu ≡ false) where
+      pub bad_untimed : untimed pdu ≡ true → bad_read ≡ read_of whom to pdu
+      unfolding read_of request_of malformed
+      bad_untimed d = rw (a, b, says.fine, d)
+
+      pub good : untimed pdu ≡ false → (r : Request) → r ≡ by_type kind (unwrap_or s.seconds 0)
+          → record { request = r; copies = s.unknown } ≡ read_of whom to pdu
+      unfolding read_of request_of malformed copies_of
+      good d r er =
+          rw (er, ek, says.timer, says.copies, unwrap_or-slice_get (timers (tlvs_of pdu).tlvs) 0 0, a, b, says.fine, d)
 
 -- ---- what callers use of a reading
 

@@ -1,10 +1,9 @@
 -- Frame sets (SET): a frame's addresses, its tag, and the frame set that it belongs to.
-use Rattle.std.specs.Prelude.{List, [], ◌∷◌, Bool, cond, ◌&&◌, ◌||◌, ℕ, ◌+◌, ◌/◌, ◌%◌, ◌^◌, length, drop, eqb, ltb}
+use Rattle.std.specs.Prelude.{List, [], ◌∷◌, Bool, cond, ◌&&◌, ◌||◌, ℕ, ◌+◌, ◌/◌, ◌%◌, ◌^◌, length, drop, eqb, ltb, Option, Some, None}
 use Rattle.octets.specs.Octets.{number}
 use Rattle.octets.specs.Lists.{within}
 use Rattle.codec.specs.declared.FrameSet.{FrameSet}
 use Rattle.codec.specs.declared.Place.{Place}
-use Rattle.codec.specs.declared.Place.TheVariants.{NoSet, InSet}
 
 -- PLAN-3: the kinds of ports, 1 UNI and 2 ENNI.
 abbrev pub uni : ℕ
@@ -95,9 +94,9 @@ sets_of portKind frame =
     (only (set_of untagged 0) 0))
 
 -- the sets as the code holds them, which has no lists
-unfoldable pub sets_in : Place → List Member
-sets_in NoSet = []
-sets_in (InSet set taglen) = only set taglen
+unfoldable pub sets_in : Option Place → List Member
+sets_in None = []
+sets_in (Some p) = only p.set p.taglen
 
 -- SET-13, REPLY-4: the type of SOAM, 0x8902.
 abbrev pub oam_type : ℕ

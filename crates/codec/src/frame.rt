@@ -38,73 +38,58 @@ pub fn is_group(address: u64) -> bool
 fn is_tag(first: usize) -> bool
     ensures { result ≡ (eqb first c_tag || eqb first s_tag) }
 {
-    if first == C_TAG {
-        return true;
-    }
-    first == S_TAG
+    first == C_TAG || first == S_TAG
 }
 
-// The set of a whole tag of the port's own type: VID 0 and 4095 have none.
-fn tagged_set(kind: u8, tag: usize) -> Place
+// The place of a frame with a whole tag of the port's own type: VID 0 and 4095 have none.
+fn tagged_set(kind: u8, tag: usize) -> Option<Place>
     ensures { sets_in result ≡ tagged kind (vid_of tag) }
 {
-    let vid = tag % VIDS;
-    if vid < 1 {
-        return Place::NoSet;
+    match tag % VIDS {
+        vid @ 1..=LAST_VID => Some(Place {
+            set: FrameSet {
+                kind,
+                vid: vid as u16,
+            },
+            taglen: TAG_LENGTH,
+        }),
+        _ => None,
     }
-    if LAST_VID < vid {
-        return Place::NoSet;
-    }
-    Place::InSet(
-        FrameSet {
-            kind: kind,
-            vid: vid as u16,
-        },
-        TAG_LENGTH,
-    )
 }
 
-// The set of a whole tag, by the port's kind, the tag's type and its number.
-fn set_of_tag(kind: u8, first: usize, tag: usize) -> Place
+// The place of a frame with a whole tag, by the port's kind, the tag's type and its number.
+fn set_of_tag(kind: u8, first: usize, tag: usize) -> Option<Place>
     ensures { sets_in result ≡ by_tag kind first tag }
 {
-    if kind == UNI {
-        if first == C_TAG {
-            return tagged_set(C_TAGGED, tag);
-        }
-        return Place::NoSet;
+    match (kind, first) {
+        (UNI, C_TAG) => tagged_set(C_TAGGED, tag),
+        (ENNI, S_TAG) => tagged_set(S_TAGGED, tag),
+        _ => None,
     }
-    if kind == ENNI {
-        if first == S_TAG {
-            return tagged_set(S_TAGGED, tag);
-        }
-        return Place::NoSet;
-    }
-    Place::NoSet
 }
 
-// The set of a frame at a port of this kind. Its source has been read.
-pub fn set_of(kind: u8, sender: u64, frame: &[u8]) -> Place
+// The place of a frame at a port of this kind, if it is in a set. Its source has been read.
+pub fn set_of(kind: u8, sender: u64, frame: &[u8]) -> Option<Place>
     requires { (14 ≤ length frame.now) × (sender ≡ source frame.now) }
     ensures { sets_in result ≡ sets_of kind frame.now }
 {
     if is_group(sender) {
-        return Place::NoSet;
+        return None;
     }
     let first = octets::number2(frame, 12);
     if is_tag(first) {
         if frame.len() < TAGGED_FRAME {
-            return Place::NoSet;
+            return None;
         }
         return set_of_tag(kind, first, octets::number2(frame, 14));
     }
-    Place::InSet(
-        FrameSet {
+    Some(Place {
+        set: FrameSet {
             kind: UNTAGGED,
             vid: 0,
         },
-        0,
-    )
+        taglen: 0,
+    })
 }
 
 // Is the type straight after so many octets of tag that of service OAM?

@@ -21,15 +21,16 @@ pub struct FrameSet {
     pub vid: u16,
 }
 
-// Where a frame belongs: in no set, or in a set that has so many octets of tag before the type.
+// Where a frame belongs: its set, and how many octets of tag it has before the type.
 #[derive(Clone, Copy)]
-pub enum Place {
-    NoSet,
-    InSet(FrameSet, usize),
+pub struct Place {
+    pub set: FrameSet,
+    pub taglen: usize,
 }
 
 // What is read of a frame once: its addresses, and whether it is service OAM; of service OAM alone whether it is a request, and the
 // level and the message type of its PDU.
+// Stays flat: `mp_of` and `fate_of` are handed the level of every frame, service OAM or not, so an Option would end in a 0 again.
 #[derive(Clone, Copy)]
 pub struct Heading {
     pub destination: u64,
@@ -65,10 +66,9 @@ pub struct Read {
     pub copies: usize,
 }
 
-// What a reply says of its machine after the call. Side and seconds are 0 where it is inactive.
+// What a reply says of an active machine: its session's side, and the seconds left. Of any other there is none.
 #[derive(Clone, Copy)]
 pub struct Status {
-    pub active: bool,
     pub side: u8,
     pub seconds: u32,
 }

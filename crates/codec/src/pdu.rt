@@ -10,7 +10,7 @@ use crate::{Addressed, Heading, Request};
 const LLM: u8 = 57;
 // That of a reply.
 pub const LLR: u8 = 56;
-// Its message types.
+// Its message types. Stays numbers: a reply repeats the octet of its request, whatever it is.
 pub const ACTIVATE: u8 = 1;
 
 pub const DEACTIVATE: u8 = 2;
@@ -23,10 +23,7 @@ const LEAST_PDU: usize = 12;
 pub fn octet_at(pdu: &[u8], i: usize) -> u8
     ensures { result ≡ get_or pdu.now i 0 }
 {
-    if i < pdu.len() {
-        return pdu[i];
-    }
-    0
+    pdu.get(i).copied().unwrap_or(0)
 }
 
 // The level; 0 where there is no octet.
@@ -82,7 +79,7 @@ fn class2_of(level: u8) -> u64
     requires { level < 8 }
     ensures { result ≡ class2 level }
 {
-    0x0180C2000038 + level as u64
+    0x0180C2000038 + u64::from(level)
 }
 
 // Whom a request with this heading and so many octets of PDU is for, at a port of this address.
@@ -93,16 +90,10 @@ pub fn addressed_to(port: u64, h: Heading, n: usize) -> Addressed
     if h.destination == port {
         return Addressed::Unicast;
     }
-    if h.destination != class2_of(h.level) {
-        return Addressed::Elsewhere;
+    if h.destination == class2_of(h.level) && h.kind == STATE && LEAST_PDU <= n {
+        return Addressed::Multicast;
     }
-    if h.kind != STATE {
-        return Addressed::Elsewhere;
-    }
-    if n < LEAST_PDU {
-        return Addressed::Elsewhere;
-    }
-    Addressed::Multicast
+    Addressed::Elsewhere
 }
 
 // Has a unicast request a Loopback Port MAC unlike its destination?
@@ -122,10 +113,12 @@ pub fn wrong_offset(pdu: &[u8]) -> bool
     ensures { result ≡ wrong_offset pdu.now }
 {
     let offset = octet_at(pdu, 3);
-    if octet_at(pdu, 0) % 32 == 0 {
-        return offset != 8;
+    let version = octet_at(pdu, 0) % 32;
+    if version == 0 {
+        offset != 8
+    } else {
+        offset < 8
     }
-    offset < 8
 }
 
 // What a well-formed request says, by its message type.

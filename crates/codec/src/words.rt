@@ -1,4 +1,5 @@
 // Words as numbers, as the definitions have them.
+// Stays numbers: `state_of` and `ok_image` read each octet of the image as it stands, whatever it is, and validity says which are kinds.
 
 // Kinds of port.
 pub const UNI: u8 = 1;

@@ -1,6 +1,6 @@
 -- "Replies" and the loop of a data frame, by computation.
 use mathlib.Core.Path.{◌≡◌, refl}
-use mathlib.Core.Bool.{true, false}
+use Rattle.std.specs.Prelude.{Option, Some, None}
 use mathlib.Core.List.{List, [], ◌∷◌, map}
 use Prim.Native.Nat.{ℕ}
 use Rattle.octets.specs.Octets.{number, octets}
@@ -14,14 +14,14 @@ use Rattle.codec_replies.specs.Reply.{reply_frame, tag_of, looped}
 abbrev port : ℕ
 port = 0x020000000001
 
-abbrev inactive : Status
-inactive = record { active = false; side = 0; seconds = 0 }
+abbrev inactive : Option Status
+inactive = None
 
-abbrev active : ℕ → Status
-active side = record { active = true; side = side; seconds = 60 }
+abbrev active : ℕ → Option Status
+active side = Some (record { side = side; seconds = 60 })
 
 -- the request's type, the answer's code, the machine after the call, the TLVs copied, and the reply at level 4
-abbrev replies : List (ℕ × ℕ × Status × List ℕ × List ℕ)
+abbrev replies : List (ℕ × ℕ × Option Status × List ℕ × List ℕ)
 replies =
     -- B1 and B2
     (1, 0, active cen, [], hex "80 38 01 08 01 00 02 00 00 00 00 01 25 00 05 01 00 00 00 3C 00")

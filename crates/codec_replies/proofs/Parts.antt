@@ -1,6 +1,6 @@
 -- The parts of a reply's PDU: the timer TLV where it is carried, the copies, and all of them in their order.
 use mathlib.Core.Path.{◌≡◌, refl}
-use mathlib.Core.Bool.{not, ◌||◌, and-false}
+use mathlib.Core.Bool.{true, false, not}
 use mathlib.Core.List.{List, [], ◌∷◌, ◌++◌}
 use Prim.Native.Nat.{ℕ, ◌+◌, ◌-◌, ◌≤◌}
 use native.Mathlib.Omega.{arith}
@@ -15,7 +15,7 @@ use Rattle.codec_replies.specs.declared.ReplyFields.{ReplyFields}
 use Rattle.codec_tlvs.specs.Tlv.{parse, unknowns, tlv_list}
 use Rattle.codec.specs.Request.{offset_of, tlvs_of, copies_of}
 use Rattle.codec.specs.Request.{copied}
-use Rattle.codec_replies.specs.Reply.{flags, flags_by, header, timer_tlv, carries_timer, timer_part, reply_of}
+use Rattle.codec_replies.specs.Reply.{flags, flags_by, header, timer_tlv, carries_timer, timer_part, seconds_of, reply_of}
 
 -- what a writer of nothing, and of the timer TLV, leaves of o
 abbrev pub Written : List ℕ → List ℕ → ℕ → List ℕ → Type 0
@@ -30,23 +30,14 @@ module _ (kind code seconds : ℕ) (o : List ℕ) where
   unfolding timer_tlv octets
   carried e w = rw e (refl, (omega arith, w))
 
-  pub under_code_1 : code ≡ 1 → Written (timer_part kind code seconds) o 0 o
-  unfolding timer_part carries_timer
-  under_code_1 c = absent (rw (eq-eqb _ _ c, and-false (eqb kind 1 || eqb kind 3)))
+  pub without_timer : carries_timer kind code ≡ false → Written (timer_part kind code seconds) o 0 o
+  unfolding timer_part
+  without_timer e = absent (rw e)
 
-  module _ (c : code ≡ 1 → ⊥) where
-    pub in_activate : {x : List ℕ} → kind ≡ 1 → x ≡ over (timer_tlv seconds) o → Written (timer_part kind code seconds) o 8 x
-    unfolding timer_part carries_timer
-    in_activate k w = carried (rw (eq-eqb _ _ k, ne_eqb _ _ c)) w
-
-    module _ (k : kind ≡ 1 → ⊥) where
-      pub in_state : {x : List ℕ} → kind ≡ 3 → x ≡ over (timer_tlv seconds) o → Written (timer_part kind code seconds) o 8 x
-      unfolding timer_part carries_timer
-      in_state l w = carried (rw (ne_eqb _ _ k, eq-eqb _ _ l, ne_eqb _ _ c)) w
-
-      pub in_others : (kind ≡ 3 → ⊥) → Written (timer_part kind code seconds) o 0 o
-      unfolding timer_part carries_timer
-      in_others l = absent (rw (ne_eqb _ _ k, ne_eqb _ _ l))
+  pub with_timer : {x : List ℕ} → carries_timer kind code ≡ true → x ≡ over (timer_tlv seconds) o
+      → Written (timer_part kind code seconds) o 8 x
+  unfolding timer_part
+  with_timer e w = carried (rw e) w
 
 module _ (count : ℕ) (request : List ℕ) where
   pub none_copied : (o : List ℕ) → count ≡ 0 → (0 ≡ length (copied count request)) × (o ≡ over (copied count request) o)
@@ -90,6 +81,6 @@ flags_told r count request e f = rw (← e, f)
 
 pub reply_length : (r : ReplyFields) (count : ℕ) (request : List ℕ)
     → length (reply_of r count request)
-    ≡ 13 + length (timer_part r.kind r.code r.status.seconds) + length (copied count request)
+    ≡ 13 + length (timer_part r.kind r.code (seconds_of r.status)) + length (copied count request)
 unfolding reply_of
 reply_length r count request = pdu_length r.level r.kind r.code r.port r.status (copied count request)

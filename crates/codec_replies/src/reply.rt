@@ -4,7 +4,7 @@ ghost use Rattle.octets.specs.Octets.{octets, over};
 ghost use Rattle.codec.specs.FrameSet.{destination};
 ghost use Rattle.codec_replies.specs.Reply.{active_flags, flags_by, header, timer_tlv, looped};
 
-use codec::{EXTERNAL, LLR, OAM_TYPE, Status, is_group};
+use codec::{ACTIVATE, EXTERNAL, LLR, OAM_TYPE, STATE, Status, is_group};
 use codec_tlvs::{TIMER, TIMER_LENGTH, TIMER_SUBTYPE};
 
 // The offset of the first TLV in a reply.
@@ -62,32 +62,27 @@ pub fn put_looped(out: &mut [u8], port: u64, to: u64, frame: &[u8]) -> usize
 }
 
 // Bits 1 and 2 of the flags.
-fn active_flags(kind: u8, status: Status) -> u8
+fn active_flags(kind: u8, status: Option<Status>) -> u8
     ensures { (result ≡ active_flags kind status) × (result < 4) }
 {
-    if kind < 1 {
-        return 0;
-    }
-    if 3 < kind {
-        return 0;
-    }
-    if status.active {
-        if status.side == EXTERNAL {
-            return ACTIVE_EXTERNAL;
+    match status {
+        Some(s) if ACTIVATE <= kind && kind <= STATE => {
+            if s.side == EXTERNAL {
+                ACTIVE_EXTERNAL
+            } else {
+                ACTIVE
+            }
         }
-        return ACTIVE;
+        _ => 0,
     }
-    0
 }
 
 // The flags octet of a reply: `copied` is whether an unknown TLV was copied.
-pub fn flags_of(kind: u8, status: Status, copied: bool) -> u8
+pub fn flags_of(kind: u8, status: Option<Status>, copied: bool) -> u8
     ensures { result ≡ flags_by kind status copied }
 {
-    if copied {
-        return active_flags(kind, status) + COPIED;
-    }
-    active_flags(kind, status)
+    let flags = active_flags(kind, status);
+    if copied { flags + COPIED } else { flags }
 }
 
 // The header's 12 octets, at the front of out.

@@ -5,13 +5,15 @@ use mathlib.Core.List.{List, [], ◌∷◌, ◌++◌}
 use Prim.Native.Nat.{ℕ, zero, suc, ◌+◌, ◌≤◌}
 use native.Mathlib.Omega.{arith}
 use lib.Dec.{leb, eqb}
-use lib.ListN.{length, take, drop, get_or, length-append, length-drop}
+use lib.ListN.{length, take, drop, length-append, length-drop}
 use lib.Seq.{take-append-le, drop-append-le}
 use borrow.Author.Tests.{le-leb, leb-true}
 use Rattle.octets.specs.Octets.{number}
 use Rattle.codec_tlvs.specs.Tlv.{Parsed, ended, cut, followed, walk, parse, timers, bad_list, unknowns, tlv_list}
-use Rattle.codec_tlvs.specs.Walk.{tlv_of, bad_summary, summary_of}
+use Rattle.codec_tlvs.specs.Walk.{bad, tlv_of, summary_of}
+use Rattle.codec_tlvs.specs.declared.BadList.{BadList}
 use Rattle.codec_tlvs.specs.declared.Summary.{Summary}
+use Rattle.std.specs.Prelude.{slice_get, Ok, Err}
 
 number_before : (l t : List ℕ) → 2 ≤ length l → number 2 (l ++ t) ≡ number 2 l
 unfolding number
@@ -56,21 +58,31 @@ pub parse_on : (l t : List ℕ) → (parse l).bad ≡ false → parse (l ++ t) �
 unfolding parse
 parse_on l t h = walk_on l 0 t h
 
-flag : (b : Bool) (x : Summary) → x.bad ≡ false → (cond b bad_summary x).bad ≡ b
-flag true x e = refl
-flag false x e = e
-
-pub summary_bad : (p : Parsed) → (summary_of p).bad ≡ bad_list p
+-- a list without a summary is bad
+pub summary_bad : (p : Parsed) {e : BadList} → Err e ≡ summary_of p → bad_list p ≡ true
 unfolding summary_of
-summary_bad p = flag (bad_list p) _ refl
+summary_bad p {e} h = go (bad_list p) _ h
+  where
+    go : (b : Bool) (s : Summary) → Err e ≡ cond b (Err bad) (Ok s) → b ≡ true
+    go true s h = refl
+    go false s h = cc
 
--- of a list that is not bad, the summary's `unknown` is the length of what is copied
-pub summary_unknown : (p : Parsed) → bad_list p ≡ false → (summary_of p).unknown ≡ length (tlv_list (unknowns p.tlvs))
-unfolding summary_of
-summary_unknown p h = rw h
+-- what a summary says of its list: it is not bad, `seconds` are those of its first timer, if it has one, and `unknown` is the length of
+-- what is copied
+pub record Says (p : Parsed) (s : Summary) : Type 0 where
+  pub fine : bad_list p ≡ false
+  pub timer : s.seconds ≡ slice_get (timers p.tlvs) 0
+  pub copies : s.unknown ≡ length (tlv_list (unknowns p.tlvs))
 
--- `timed` says whether there is a timer, and `seconds` are those of the first
-pub summary_timer : (p : Parsed) → bad_list p ≡ false
-    → ((summary_of p).timed ≡ leb 1 (length (timers p.tlvs))) × ((summary_of p).seconds ≡ get_or (timers p.tlvs) 0 0)
+pub summary_says : (p : Parsed) {s : Summary} → Ok s ≡ summary_of p → Says p s
 unfolding summary_of
-summary_timer p h = (rw h, rw h)
+summary_says p {s} h = go (bad_list p) refl h
+  where
+    whole : Summary
+    whole = record { seconds = slice_get (timers p.tlvs) 0; unknown = length (tlv_list (unknowns p.tlvs)) }
+
+    go : (b : Bool) → bad_list p ≡ b → Ok s ≡ cond b (Err bad) (Ok whole) → Says p s
+    go true e h = cc
+    go false e h =
+        let same : whole ≡ s = cc in
+        rw (← same) (record { fine = e; timer = refl; copies = refl })

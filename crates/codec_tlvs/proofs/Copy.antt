@@ -9,7 +9,9 @@ use Rattle.octets.specs.Octets.{octets, over, splice}
 use Rattle.octets.proofs.Over.{splice_splice, splice_none, length_splice}
 use Rattle.codec_tlvs.specs.Tlv.{Tlv, Parsed, ended, cut, followed, parse, is_unknown, unknowns, tlv_octets, tlv_list}
 use Rattle.codec_tlvs.specs.Walk.{step_at, tlv_of, kept}
-use Rattle.codec_tlvs.specs.declared.Step.TheVariants.{Tlv as Found, End, Bad}
+use Rattle.codec_tlvs.specs.declared.Tlv.{Tlv as Found}
+use Rattle.codec_tlvs.specs.declared.BadList.{BadList}
+use Rattle.std.specs.Prelude.{Some, None, Ok, Err}
 use Rattle.codec_tlvs.proofs.Walk.{parse_at}
 
 pub kept_none : (kind : ℕ) (v : List ℕ) → is_unknown (tlv_of kind v) ≡ false → kept kind v ≡ []
@@ -46,32 +48,32 @@ pub start : (l out : List ℕ) (from : ℕ) → length (rest l from) ≤ length 
 start l out from h = record { room = h; count = omega arith; list = refl; long = refl }
 
 module _ {l u out₀ : List ℕ} {at n : ℕ} {out : List ℕ} (c : Copying l u out₀ at n out) where
-  module _ {kind s len next m : ℕ} (e : step_at l at ≡ Found kind s len next) (em : m ≡ len) where
-    first : rest l at ≡ kept kind (take m (drop s l)) ++ rest l next
-    first = rw (parse_at l at, e, em) (unknown_first (tlv_of kind (take len (drop s l))) (parse (drop next l)))
+  module _ {t : Found} (e : Ok (Some t) ≡ step_at l at) where
+    first : rest l at ≡ kept t.kind (take t.len (drop t.start l)) ++ rest l t.next
+    first = rw (parse_at l at, ← e) (unknown_first (tlv_of t.kind (take t.len (drop t.start l))) (parse (drop t.next l)))
 
-    pub room : n + length (kept kind (take m (drop s l))) ≤ length out
+    pub room : n + length (kept t.kind (take t.len (drop t.start l))) ≤ length out
     room = omega (arith, c.room, c.count, c.long, simp length-append at (ap length first))
 
-    pub turn : {n' : ℕ} {out' : List ℕ} → n' ≡ n + length (kept kind (take m (drop s l)))
-        → out' ≡ splice n (kept kind (take m (drop s l))) out → Copying l u out₀ next n' out'
+    pub turn : {n' : ℕ} {out' : List ℕ} → n' ≡ n + length (kept t.kind (take t.len (drop t.start l)))
+        → out' ≡ splice n (kept t.kind (take t.len (drop t.start l))) out → Copying l u out₀ t.next n' out'
     turn {n'} {out'} en eo =
-        let w : List ℕ = kept kind (take m (drop s l)) in
-        let f : length (rest l at) ≡ length w + length (rest l next) = ap length first ∙ length-append w (rest l next) in
+        let w : List ℕ = kept t.kind (take t.len (drop t.start l)) in
+        let f : length (rest l at) ≡ length w + length (rest l t.next) = ap length first ∙ length-append w (rest l t.next) in
         record {
           room = c.room;
           count = omega (arith, c.count);
-          list = rw (en, eo, splice_splice n w (rest l next) out room, ← first) c.list;
+          list = rw (en, eo, splice_splice n w (rest l t.next) out room, ← first) c.list;
           long = rw eo (length_splice n w out room ∙ c.long);
         }
 
   pub end : rest l at ≡ [] → (n ≡ length u) × (out ≡ over u out₀)
   end z = (omega (arith, c.count, ap length z), sym (splice_none n out) ∙ rw z at c.list)
 
-pub none_at_end : (l : List ℕ) (at : ℕ) → step_at l at ≡ End → rest l at ≡ []
+pub none_at_end : (l : List ℕ) (at : ℕ) → Ok None ≡ step_at l at → rest l at ≡ []
 unfolding unknowns tlv_list ended
-none_at_end l at e = rw (parse_at l at, e)
+none_at_end l at e = rw (parse_at l at, ← e)
 
-pub none_at_bad : (l : List ℕ) (at : ℕ) → step_at l at ≡ Bad → rest l at ≡ []
+pub none_at_bad : (l : List ℕ) (at : ℕ) {d : BadList} → Err d ≡ step_at l at → rest l at ≡ []
 unfolding unknowns tlv_list cut
-none_at_bad l at e = rw (parse_at l at, e)
+none_at_bad l at e = rw (parse_at l at, ← e)

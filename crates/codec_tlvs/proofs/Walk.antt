@@ -12,9 +12,10 @@ use lib.Seq.{drop-cons, drop-drop}
 use borrow.Author.Tests.{lt-ltb, le-ltb, le-leb, lt-leb, leb-true}
 use Rattle.octets.specs.Octets.{number}
 use Rattle.codec_tlvs.specs.Tlv.{Parsed, ended, cut, followed, walk, parse}
-use Rattle.codec_tlvs.specs.Walk.{step_at, tlv_of}
-use Rattle.codec_tlvs.specs.declared.Step.{Step}
-use Rattle.codec_tlvs.specs.declared.Step.TheVariants.{Tlv as Found, End, Bad}
+use Rattle.codec_tlvs.specs.Walk.{step_at, tlv_of, bad}
+use Rattle.codec_tlvs.specs.declared.Tlv.{Tlv as Found}
+use Rattle.codec_tlvs.specs.declared.BadList.{BadList}
+use Rattle.std.specs.Prelude.{Option, Some, None, Result, Ok, Err}
 
 pub walk_drop : (n : ℕ) (l : List ℕ) → walk n l ≡ walk 0 (drop n l)
 unfolding walk
@@ -23,10 +24,10 @@ walk_drop (suc n) [] = refl
 walk_drop (suc n) (x ∷ l) = walk_drop n l
 
 -- the parse that follows from what stands at a place
-abbrev pub by_step : List ℕ → Step → Parsed
-by_step l (Found kind start len next) = followed (tlv_of kind (take len (drop start l))) (parse (drop next l))
-by_step l End = ended
-by_step l Bad = cut
+abbrev pub by_step : List ℕ → Result (Option Found) BadList → Parsed
+by_step l (Ok (Some t)) = followed (tlv_of t.kind (take t.len (drop t.start l))) (parse (drop t.next l))
+by_step l (Ok None) = ended
+by_step l (Err e) = cut
 
 -- a drop in two steps, at a place that is known by an equation
 pub drop_to : (m n k : ℕ) (l : List ℕ) → n + m ≡ k → drop m (drop n l) ≡ drop k l
@@ -41,7 +42,8 @@ same_leb a b c d f g = go (dec_le a b)
         let z : c ≤ d → ⊥ = λ e. h (g e) in
         lt-leb a b (omega arith) ∙ sym (lt-leb c d (omega arith))
 
-by_cond : (l : List ℕ) (a b : Bool) (t : Step) → by_step l (cond a End (cond b t Bad)) ≡ cond a ended (cond b (by_step l t) cut)
+by_cond : (l : List ℕ) (a b : Bool) (t : Result (Option Found) BadList)
+    → by_step l (cond a (Ok None) (cond b t (Err bad))) ≡ cond a ended (cond b (by_step l t) cut)
 by_cond l true b t = refl
 by_cond l false true t = refl
 by_cond l false false t = refl
@@ -65,37 +67,38 @@ parse_at l at = go (dec_lt at (length l))
         rw (e, lt-ltb at (length l) h, by_cond, b, v, w)
 
 -- what is known of the places of a TLV that stands in the list
-pub record Stood (l : List ℕ) (at start len next : ℕ) : Type 0 where
-  pub starts : start ≡ at + 3
-  pub follows : next ≡ at + 3 + len
-  pub inside : next ≤ length l
+pub record Stood (l : List ℕ) (at : ℕ) (t : Found) : Type 0 where
+  pub starts : t.start ≡ at + 3
+  pub follows : t.next ≡ at + 3 + t.len
+  pub inside : t.next ≤ length l
 
-pub stood : (l : List ℕ) (at : ℕ) {kind start len next : ℕ} → step_at l at ≡ Found kind start len next → Stood l at start len next
+pub stood : (l : List ℕ) (at : ℕ) {t : Found} → Ok (Some t) ≡ step_at l at → Stood l at t
 unfolding step_at
-stood l at {kind} {start} {len} {next} e =
+stood l at {t} e =
     go (ltb at (length l)) (eqb (get_or l at 0) 0) (leb (at + 3 + n) (length l)) refl e
   where
     n : ℕ
     n = number 2 (drop (at + 1) l)
 
+    whole : Found
+    whole = record { kind = get_or l at 0; start = at + 3; len = n; next = at + 3 + n }
+
     go : (a b d : Bool) → leb (at + 3 + n) (length l) ≡ d
-        → cond a (cond b End (cond d (Found (get_or l at 0) (at + 3) n (at + 3 + n)) Bad)) Bad ≡ Found kind start len next
-        → Stood l at start len next
-    go true false true t h =
-        let hs : at + 3 ≡ start = cc in
-        let hl : n ≡ len = cc in
-        let hn : at + 3 + n ≡ next = cc in
-        record { starts = sym hs; follows = omega arith; inside = omega (arith, leb-true (at + 3 + n) (length l) t) }
-    go false b d t h = let z : ◌≡◌ {A = ℕ} 0 1 = cc in absurd (omega arith)
-    go true true d t h = let z : ◌≡◌ {A = ℕ} 0 1 = cc in absurd (omega arith)
-    go true false false t h = let z : ◌≡◌ {A = ℕ} 0 1 = cc in absurd (omega arith)
+        → Ok (Some t) ≡ cond a (cond b (Ok None) (cond d (Ok (Some whole)) (Err bad))) (Err bad)
+        → Stood l at t
+    go true false true f h =
+        let same : whole ≡ t = cc in
+        rw (← same) (record { starts = refl; follows = refl; inside = leb-true (at + 3 + n) (length l) f })
+    go false b d f h = cc
+    go true true d f h = cc
+    go true false false f h = cc
 
-module _ (l : List ℕ) (at : ℕ) {kind start len next : ℕ} (e : Found kind start len next ≡ step_at l at) where
-  met : Stood l at start len next
-  met = stood l at (sym e)
+module _ (l : List ℕ) (at : ℕ) {t : Found} (e : Ok (Some t) ≡ step_at l at) where
+  met : Stood l at t
+  met = stood l at e
 
-  pub nearer : length l - next < length l - at
+  pub nearer : length l - t.next < length l - at
   nearer = omega (arith, met)
 
-  pub in_list : start + len ≤ length l
+  pub in_list : t.start + t.len ≤ length l
   in_list = omega (arith, met)

@@ -4,7 +4,6 @@ ghost use Rattle.octets.specs.Octets.{over, splice};
 ghost use Rattle.codec_tlvs.specs.Tlv.{parse, unknowns, tlv_list};
 ghost use Rattle.codec_tlvs.specs.Walk.{kept};
 
-use crate::Step;
 use crate::kinds::is_unknown;
 use crate::readers::TlvReader;
 
@@ -32,14 +31,9 @@ pub fn copy_unknown(out: &mut [u8], pdu: &[u8], from: usize) -> usize
 {
     let mut r = TlvReader::new(pdu, from);
     let mut n = 0;
-    loop {
-        match r.next() {
-            Step::Tlv(kind, start, len, next) => {
-                n = copy_one(&mut out[..], n, kind, r.value(start, len));
-                r = r.moved(next);
-            }
-            Step::End => return n,
-            Step::Bad => return n,
-        }
+    while let Ok(Some(tlv)) = r.next() {
+        n = copy_one(&mut out[..], n, tlv.kind, r.value(tlv.start, tlv.len));
+        r = r.moved(tlv.next);
     }
+    n
 }

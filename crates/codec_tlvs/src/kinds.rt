@@ -8,17 +8,13 @@ use crate::words::{TIMER, TIMER_SUBTYPE};
 pub fn is_unknown(kind: u8, value: &[u8]) -> bool
     ensures { result ≡ is_unknown (tlv_of kind value.now) }
 {
-    if kind == 0 {
-        return false; // End
+    match kind {
+        0 => false, // End
+        TIMER => match value {
+            [] => false, // no subtype
+            [TIMER_SUBTYPE, ..] => false, // the timer
+            [_, ..] => true,
+        },
+        _ => true,
     }
-    if kind != TIMER {
-        return true;
-    }
-    if value.len() == 0 {
-        return false; // no subtype
-    }
-    if value[0] == TIMER_SUBTYPE {
-        return false; // the timer
-    }
-    true
 }

@@ -13,28 +13,22 @@ pub use readers::TlvReader;
 pub use summaries::summary_of;
 pub use words::{TIMER, TIMER_LENGTH, TIMER_SUBTYPE};
 
-// What stands at a place of the list: a TLV (its type, where its value starts, the value's length, and where the next one stands),
-// the End, or what makes the list bad.
-#[derive(Clone, Copy)]
-pub enum Step {
-    Tlv(u8, usize, usize, usize),
-    End,
-    Bad,
+// A TLV where it lies: its type, where its value starts, how many octets that has, and where the next TLV stands.
+#[derive(Clone, Copy, Debug, PartialEq, Eq)]
+pub struct Tlv {
+    pub kind: u8,
+    pub start: usize,
+    pub len: usize,
+    pub next: usize,
 }
 
-// What the value of a timer says: it makes the list bad, or it has the seconds.
-#[derive(Clone, Copy)]
-pub enum Timer {
-    Broken,
-    Seconds(u32),
-}
+// A list that is bad. Nothing more is said of it.
+#[derive(Clone, Copy, Debug, PartialEq, Eq)]
+pub struct BadList;
 
-// What a list comes to. Of a bad one nothing more is said (false and 0); of another, whether there is a timer, its seconds, and how
-// many octets its unknown TLVs have.
-#[derive(Clone, Copy)]
+// What a good list comes to: the seconds of its timer, if it has one, and how many octets its unknown TLVs have.
+#[derive(Clone, Copy, Debug, PartialEq, Eq)]
 pub struct Summary {
-    pub bad: bool,
-    pub timed: bool,
-    pub seconds: u32,
+    pub seconds: Option<u32>,
     pub unknown: usize,
 }

@@ -1,11 +1,12 @@
 // A reader that walks the octets of its caller: it holds the PDU and its place there. Each of its functions takes it apart and calls
 // one of a slice and a place.
+// Stays no iterator: `next`, `value` and `moved` keep their names and promises, by which docs/CLAIMS.md has TLV-13 and FORM-7.
 ghost use Rattle.std.specs.Prelude.{◌≡◌, ◌+◌, ◌≤◌, length};
 ghost use Rattle.codec_tlvs.specs.Part.{Part};
 ghost use Rattle.codec_tlvs.specs.Walk.{step_at};
 
-use crate::Step;
 use crate::steps::{tlv_at, value_at};
+use crate::{BadList, Tlv};
 
 #[derive(Clone, Copy)]
 pub struct TlvReader<'a> {
@@ -21,8 +22,8 @@ impl<'a> TlvReader<'a> {
         TlvReader { pdu, at }
     }
 
-    // What stands at its place.
-    pub fn next(self) -> Step
+    // The TLV at its place, or none at the End.
+    pub fn next(self) -> Result<Option<Tlv>, BadList>
         ensures { result ≡ step_at self.entry.pdu.now self.entry.at }
     {
         tlv_at(self.pdu, self.at)

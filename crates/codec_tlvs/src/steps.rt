@@ -3,29 +3,34 @@ ghost use Rattle.std.specs.Prelude.{◌≡◌, ◌+◌, ◌≤◌, length};
 ghost use Rattle.codec_tlvs.specs.Part.{Part};
 ghost use Rattle.codec_tlvs.specs.Walk.{step_at};
 
-use crate::Step;
+use crate::{BadList, Tlv};
 
-// The place may lie past the end of the PDU.
-pub fn tlv_at(pdu: &[u8], at: usize) -> Step
+// The TLV at a place, which may lie past the end of the PDU, or none at the End.
+pub fn tlv_at(pdu: &[u8], at: usize) -> Result<Option<Tlv>, BadList>
     ensures { result ≡ step_at pdu.now at }
 {
     if pdu.len() <= at {
-        return Step::Bad; // no End
+        return Err(BadList); // no End
     }
     let kind = pdu[at];
     if kind == 0 {
-        return Step::End;
+        return Ok(None);
     }
     let left = pdu.len() - at;
     if left < 3 {
-        return Step::Bad; // a length cut short
+        return Err(BadList); // a length cut short
     }
     let len = octets::number2(pdu, at + 1);
     if left - 3 < len {
-        return Step::Bad; // a value past the PDU
+        return Err(BadList); // a value past the PDU
     }
     let start = at + 3;
-    Step::Tlv(kind, start, len, start + len)
+    Ok(Some(Tlv {
+        kind,
+        start,
+        len,
+        next: start + len,
+    }))
 }
 
 // A part of the PDU, where it lies.

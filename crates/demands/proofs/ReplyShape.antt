@@ -1,6 +1,6 @@
 -- Two replies that differ in what they copy: octet by octet, and that nothing else is left open.
 use mathlib.Core.Path.{◌≡◌, refl, sym, ap, ◌∙◌}
-use mathlib.Core.Bool.{Bool, true, false, cond, ◌&&◌, not}
+use mathlib.Core.Bool.{Bool, true, false, cond, not}
 use mathlib.Core.List.{List, [], ◌∷◌, ◌++◌, append_assoc}
 use Prim.Native.Nat.{ℕ, ◌+◌, ◌*◌, ◌<◌}
 use native.Mathlib.Omega.{arith}
@@ -8,13 +8,14 @@ use lib.Dec.{eqb}
 use lib.ListN.{length, take, drop, length-append}
 use lib.Seq.{take_at, drop_at}
 use borrow.Author.Tests.{ne_eqb}
+use Rattle.std.specs.Prelude.{Option, Some, None}
 use Rattle.octets.specs.Octets.{octets}
 use Rattle.octets.proofs.Laws.{octets_length}
 use Rattle.octets.specs.Lists.{within}
 use Rattle.codec.specs.declared.Status.{Status}
 use Rattle.codec.specs.FrameSet.{external}
 use Rattle.codec_tlvs.specs.Tlv.{Tlv, unknowns, tlv_octets, tlv_list}
-use Rattle.codec_replies.specs.Reply.{active_flags, flags_by, flags, header, timer_part, reply_pdu, reply_frame}
+use Rattle.codec_replies.specs.Reply.{active_flags, flags_by, flags, header, timer_part, seconds_of, reply_pdu, reply_frame}
 use Rattle.demands.specs.LaterRuns.{copied_bit, Replies}
 
 bit_is : (ts : List Tlv) → cond (not (eqb (length (tlv_list ts)) 0)) 4 0 ≡ copied_bit ts
@@ -22,21 +23,22 @@ unfolding tlv_list copied_bit tlv_octets
 bit_is [] = refl
 bit_is (t ∷ ts) = rw (ne_eqb (length (tlv_list (t ∷ ts))) 0 (λ z. omega (arith, z)))
 
-active_few : (kind : ℕ) (status : Status) → active_flags kind status < 4
+active_few : (kind : ℕ) (status : Option Status) → active_flags kind status < 4
 unfolding active_flags
-active_few kind status = go (within 1 3 kind && status.active) (eqb status.side external)
+active_few kind None = omega arith
+active_few kind (Some status) = go (within 1 3 kind) (eqb status.side external)
   where
     go : (a b : Bool) → cond a (cond b 3 1) 0 < 4
     go true true = omega arith
     go true false = omega arith
     go false b = omega arith
 
-module _ (requester from level kind code port : ℕ) (tag : List ℕ) (status : Status) where
+module _ (requester from level kind code port : ℕ) (tag : List ℕ) (status : Option Status) where
   abbrev start : List ℕ
   start = octets 6 requester ++ octets 6 from ++ tag ++ octets 2 0x8902 ++ (level * 32 ∷ 56 ∷ [])
 
   abbrev rest : List ℕ
-  rest = (8 ∷ kind ∷ code ∷ octets 6 port) ++ timer_part kind code status.seconds
+  rest = (8 ∷ kind ∷ code ∷ octets 6 port) ++ timer_part kind code (seconds_of status)
 
   pdu_is : (ts : List Tlv) → reply_pdu level kind code port status (tlv_list ts)
       ≡ (level * 32 ∷ 56 ∷ []) ++ ((active_flags kind status + copied_bit ts) ∷ rest) ++ tlv_list ts ++ (0 ∷ [])

@@ -14,9 +14,8 @@ use Rattle.codec.specs.Request.{request_of, copies_of}
 use Rattle.machine.specs.declared.Session.{Session}
 use Rattle.machine.specs.declared.Machine.{Machine}
 use Rattle.machine.specs.declared.Machine.TheVariants.{Inactive, Active}
-use Rattle.machine.specs.declared.Decided.{Decided}
 use Rattle.machine.specs.Table.{Event, rqst_activate, rqst_deactivate, rqst_state}
-use Rattle.machine.specs.Machine.{condition_of}
+use Rattle.machine.specs.Machine.{Decision, condition_of}
 use Rattle.plan.specs.declared.Flow.{Flow}
 use Rattle.state.specs.State.{State, is_allowed, full_for, notice_due, valid}
 use Rattle.calls.specs.declared.Answer.TheVariants.{Forwarded, Dropped}
@@ -57,7 +56,7 @@ module _ (set : FrameSet) (a : Arrived) (whom : Addressed) where
           → Alike (machine_served s a whom e seconds) (stepped w set a whom step)
       unfolding machine_served stepped gets become
       step_alike e seconds step same =
-          let d : Decided = decides s a e seconds in
+          let d : Decision = decides s a e seconds in
           let t : State = changed (own_key a) d.change s in
           let after : _ = change_shown s w k h set a f may settled d.change
           (decided_puts s a h settled f.source_fits e seconds) in

@@ -7,6 +7,7 @@ use Prim.Native.Nat.{ℕ, ◌+◌, ◌-◌, ◌/◌, ◌<◌, ◌≤◌}
 use native.Mathlib.Omega.{arith}
 use lib.Dec.{eqb}
 use borrow.Author.Tests.{le-leb}
+use Rattle.std.specs.Prelude.{Some}
 use Rattle.octets.proofs.Same.{both_true}
 use Rattle.codec.specs.declared.FrameSet.{FrameSet}
 use Rattle.machine.specs.Time.{elapsed}
@@ -50,7 +51,7 @@ module _ (keys : ℕ) (p : ℕ) (s : FrameSet) (x : ℕ) where
       (a : is_left_alone keys p s x w cs ≡ true) (low : elapsed_over keys w cs < left) where
     -- So it is reported: rounded up.
     pub seconds_left_lem : status_of ((world_after keys w cs).machine p s x)
-        ≡ record { active = true; side = side; seconds = (left - elapsed_over keys w cs + 999) / 1000 }
+        ≡ Some (record { side = side; seconds = (left - elapsed_over keys w cs + 999) / 1000 })
     unfolding status_of
     seconds_left_lem = rw (time_left w cs level side left tag m a low)
 

@@ -3,6 +3,7 @@ use mathlib.Core.Path.{◌≡◌, ap, ◌∙◌}
 use mathlib.Core.Bool.{true, false}
 use mathlib.Core.List.{List}
 use Prim.Native.Nat.{ℕ, ◌+◌, ◌-◌, ◌*◌, ◌/◌, ◌<◌}
+use Rattle.std.specs.Prelude.{Some}
 use Rattle.octets.specs.Lists.{within}
 use Rattle.codec.specs.declared.FrameSet.{FrameSet}
 use Rattle.codec.specs.declared.Request.TheVariants.{Activate, State as StateRequest}
@@ -45,7 +46,7 @@ module _ (keys : ℕ) (w : World) (port side : ℕ) (set : FrameSet) (taglen sec
       → (call keys later (frame port side' f out')).octets
       ≡ reply_frame (source f) (port_numbered port later.plan).address (tag_of taglen' f)
       (reply_pdu (level_of (pdu_of taglen' f)) (type_of (pdu_of taglen' f)) 0 (port_numbered port later.plan).address
-      (record { active = true; side = side; seconds = (seconds * 1000 - elapsed_over keys opens cs + 999) / 1000 })
+      (Some (record { side = side; seconds = (seconds * 1000 - elapsed_over keys opens cs + 999) / 1000 }))
       (copies_of (pdu_of taglen' f)))
   seconds_told free q is good space alone low free' q' same =
       let m : _ = opened keys w port side set taglen g out free q is good space in

@@ -8,20 +8,19 @@ use Rattle.machine.specs.declared.Session.{Session}
 use Rattle.machine.specs.declared.Machine.{Machine}
 use Rattle.machine.specs.declared.Machine.TheVariants.{Inactive, Active}
 use Rattle.machine.specs.declared.Change.TheVariants.{Opened, Restarted, Closed}
-use Rattle.machine.specs.declared.Decided.{Decided}
 use Rattle.machine.specs.Table.{Event, rqst_activate, rqst_deactivate, rqst_state, action_of}
-use Rattle.machine.specs.Machine.{activity, lasting, good_seconds, answered, admitted, same_mp, refreshed, restarted, closed}
+use Rattle.machine.specs.Machine.{Decision, activity, lasting, good_seconds, answered, admitted, same_mp, refreshed, restarted, closed}
 use Rattle.machine.specs.Machine.{decided, after}
 use Rattle.demands.specs.Machine.{Step, nothing, inactive, active, gets, activate, deactivate}
 use Rattle.demands.specs.Shown.{resting, tag_in}
 use Rattle.demands.proofs.MachineShown.{shown}
 
 -- what a decision is to the world's machine
-abbrev pub step_by : Decided → Machine → Step
+abbrev pub step_by : Decision → Machine → Step
 step_by d m = gets d.code (shown true (after d.change m))
 
 module _ (full seconds : ℕ) (new : Session) where
-  abbrev pub decision : Machine → Event → Decided
+  abbrev pub decision : Machine → Event → Decision
   decision m e = decided (action_of (activity m) e) full seconds new m
 
   pub activate_same : (m : Machine)

@@ -21,7 +21,7 @@ decimal_long : (x : ℕ) → length (in_decimal x) ≤ 20
 unfolding in_decimal
 decimal_long x = decimal_short 20 x
 
-outcome_long : (n : ℕ) → length (get_or outcomes n []) ≤ 12
+pub outcome_long : (n : ℕ) → length (get_or outcomes n []) ≤ 12
 unfolding outcomes text every
 outcome_long n =
     leb-true (length (get_or outcomes n [])) 12 (word_passes (λ (w : List ℕ). leb (length w) 12) refl outcomes refl n)

@@ -1,12 +1,10 @@
 -- Hexadecimal digits: what one of them is, a turn of the loop that tests them, and the octets that two of them are.
 use mathlib.Core.Path.{◌≡◌, refl}
-use mathlib.Core.Bool.{Bool, true, false, cond, ◌&&◌, and-true, and_assoc, false≢true}
+use mathlib.Core.Bool.{Bool, true, false, ◌&&◌, and-true, and_assoc, false≢true}
 use mathlib.Core.List.{List, [], ◌∷◌, ◌++◌}
 use Prim.Native.Nat.{ℕ, zero, suc, ◌+◌, ◌*◌, ◌/◌, ◌<◌, ◌≤◌}
 use native.Mathlib.Numerals.{add-one}
 use native.Mathlib.Omega.{arith}
-use lib.Bits.{bit_or}
-use lib.Dec.{eqb}
 use lib.ListN.{length, get_or, take, drop, set, drop_of_length-le}
 use lib.Seq.{drop-cons}
 use borrow.Author.Tests.{lt-leb}
@@ -16,7 +14,6 @@ use Rattle.octets.proofs.Over.{copy_more}
 use Rattle.octets.proofs.Same.{both_true}
 use Rattle.octets.proofs.Cases.{by_le}
 use Rattle.octets.proofs.ListLaws.{within_low, within_high}
-use Rattle.octets.proofs.Zero.{or_eqb}
 use Rattle.plan.specs.Line.{is_digit}
 use Rattle.plan_lines.specs.Fields.{is_hex}
 use Rattle.events.specs.Event.{unhexed}
@@ -39,20 +36,15 @@ module _ (x : ℕ) (t : is_hex x ≡ true) where
       let w : within 97 102 x ≡ true = rw (above 48 57 x k) at t in
       (within_low 97 102 x w, within_high 97 102 x w)
 
--- the flag of a test is 0 where it holds
-flag : (b : Bool) → eqb (cond b 0 1) 0 ≡ b
-flag true = refl
-flag false = refl
-
--- a turn of the loop that ORs a flag of each octet, and its end
-pub digits_turn : (f : List ℕ) (i any : ℕ) {r : ℕ} → i < length f → r ≡ cond (is_hex (get_or f i 0)) 0 1
-    → (eqb (bit_or any r) 0 && every is_hex (drop (i + 1) f)) ≡ (eqb any 0 && every is_hex (drop i f))
+-- a turn of the loop that tests each octet, and its end
+pub digits_turn : (f : List ℕ) (i : ℕ) (all : Bool) → i < length f
+    → ((all && is_hex (get_or f i 0)) && every is_hex (drop (i + 1) f)) ≡ (all && every is_hex (drop i f))
 unfolding every
-digits_turn f i any h e = rw e (simp (or_eqb, flag, add-one, drop-cons f i 0 h, and_assoc))
+digits_turn f i all h = simp (add-one, drop-cons f i 0 h, and_assoc)
 
-pub digits_end : (f : List ℕ) (i any : ℕ) → length f ≤ i → (eqb any 0 && every is_hex (drop i f)) ≡ eqb any 0
+pub digits_end : (f : List ℕ) (i : ℕ) (all : Bool) → length f ≤ i → (all && every is_hex (drop i f)) ≡ all
 unfolding every
-digits_end f i any h = simp (drop_of_length-le f h, and-true)
+digits_end f i all h = simp (drop_of_length-le f h, and-true)
 
 -- where every octet is a digit, the one at each place is
 pub digit_at : (f : List ℕ) → every is_hex f ≡ true → (i : ℕ) → i < length f → is_hex (get_or f i 0) ≡ true

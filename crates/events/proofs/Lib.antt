@@ -4,7 +4,7 @@ mod Counts
 mod HexFields
 mod LogFields
 mod LogFrames
-mod LogWords
+pub mod LogWords
 pub mod Puts
 mod Hexes
 mod Decimals

@@ -16,7 +16,7 @@ use Rattle.octets.proofs.ListLaws.{every_such, within_low}
 use Rattle.plan.specs.Line.{tab, lf, joined, parted, is_digit, is_number, number_in}
 use Rattle.plan.proofs.WrittenFields.{plain, plain_free, parted_only}
 use Rattle.plan_lines.proofs.Parts.{some_part}
-use Rattle.plan_lines.proofs.ByFields.{by_test}
+use Rattle.plan_lines.proofs.Words.{by_test}
 use Rattle.plan_lines.specs.Fields.{is_hex}
 use Rattle.events.specs.Event.{highest, is_count, is_hexed, is_octets}
 use Rattle.events.proofs.HexDigits.{from_zero}

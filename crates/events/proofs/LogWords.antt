@@ -10,10 +10,11 @@ use Rattle.octets.specs.Octets.{same}
 use Rattle.octets.specs.Text.{text}
 use Rattle.octets.proofs.Same.{same_equal}
 use Rattle.plan.specs.Line.{tab, parted, field, number_in}
-use Rattle.plan_lines.proofs.ByFields.{by_test}
+use Rattle.plan_lines.proofs.Words.{by_test}
 use Rattle.events.specs.Event.{Event, notice, unreadable, line_room}
 use Rattle.events.specs.Event.{is_count, as_frame, as_numbered, as_notice, by_word, event_of}
-use Rattle.events.specs.Read.{octets_of, numbered}
+use Rattle.std.specs.Prelude.{None}
+use Rattle.events.specs.Read.{logged, octets_of, numbered}
 use Rattle.events.proofs.LogFields.{last_alone, count_plain}
 
 -- a choice between two that are the same
@@ -75,3 +76,9 @@ module _ (word : List ℕ) where
     pub number_octets : (f : List ℕ) → octets_of (by_word (word ∷ parted tab f)) ≡ []
     unfolding octets_of numbered
     number_octets f = rw (with_number f) (simp (octets_either, either))
+
+-- any other word
+pub other_word : (word : List ℕ) (n : ℕ) → same word (text "tick") ≡ false → same word (text "allow") ≡ false
+    → same word (text "prohibit") ≡ false → same word (text "restart") ≡ false → None ≡ logged (numbered word n)
+unfolding logged numbered
+other_word word n a b c d = simp (a, b, c, d)

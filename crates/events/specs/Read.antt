@@ -1,26 +1,22 @@
 -- An event as the code holds it: a frame's octets stand in the caller's buffer.
-use Rattle.std.specs.Prelude.{◌≡◌, cond, List, [], ℕ, ◌+◌, length}
+use Rattle.std.specs.Prelude.{◌≡◌, cond, Option, Some, None, List, [], ℕ, ◌+◌, length}
 use Rattle.octets.specs.Octets.{over, splice, same}
 use Rattle.octets.specs.Text.{text}
 use Rattle.plan.specs.Line.{number_in}
 use Rattle.events.specs.declared.Logged.{Logged}
-use Rattle.events.specs.declared.Logged.TheVariants.{Unreadable, Frame, Tick, Allow, Prohibit, Notice, Restart}
-use Rattle.events.specs.declared.fields.Count.{Count}
-use Rattle.events.specs.declared.fields.Count.TheVariants.{NoCount, Counted}
-use Rattle.events.specs.declared.fields.Octets.{Octets}
-use Rattle.events.specs.declared.fields.Octets.TheVariants.{NoOctets, Many}
+use Rattle.events.specs.declared.Logged.TheVariants.{Frame, Tick, Allow, Prohibit, Notice, Restart}
 use Rattle.events.specs.Event.{Event, frame, tick, allow, prohibit, notice, restart, unreadable}
 use Rattle.events.specs.Event.{is_count, is_octets, octets_in}
 
--- an event by value: of a frame's octets only their count
-unfoldable pub logged : Event → Logged
-logged (frame port side octets) = Frame port side (length octets)
-logged (tick reading) = Tick reading
-logged (allow flow) = Allow flow
-logged (prohibit flow) = Prohibit flow
-logged notice = Notice
-logged (restart reading) = Restart reading
-logged unreadable = Unreadable
+-- an event by value: of a frame's octets only their count; none that cannot be read
+unfoldable pub logged : Event → Option Logged
+logged (frame port side octets) = Some (Frame port side (length octets))
+logged (tick reading) = Some (Tick reading)
+logged (allow flow) = Some (Allow flow)
+logged (prohibit flow) = Some (Prohibit flow)
+logged notice = Some Notice
+logged (restart reading) = Some (Restart reading)
+logged unreadable = None
 
 -- the octets of a frame; no other event has any
 unfoldable pub octets_of : Event → List ℕ
@@ -33,17 +29,17 @@ octets_of (restart reading) = []
 octets_of unreadable = []
 
 -- an event that was read: by value, and its octets at the front of a buffer
-pub record ReadAs (e : Event) (r : Logged) (before after : List ℕ) : Type 0 where
+pub record ReadAs (e : Event) (r : Option Logged) (before after : List ℕ) : Type 0 where
   pub event : r ≡ logged e
   pub octets : after ≡ over (octets_of e) before
 
--- a field as a number
-unfoldable pub count_in : List ℕ → Count
-count_in l = cond (is_count l) (Counted (number_in l)) NoCount
+-- a field as a number; nothing if it is none
+unfoldable pub count_in : List ℕ → Option ℕ
+count_in l = cond (is_count l) (Some (number_in l)) None
 
--- a field as octets, at the front of a buffer; a field that is none leaves the buffer as it was
-pub record HexAs (l : List ℕ) (r : Octets) (before after : List ℕ) : Type 0 where
-  pub told : r ≡ cond (is_octets l) (Many (length (octets_in l))) NoOctets
+-- a field as octets, at the front of a buffer, by how many there are; a field that is none leaves the buffer as it was
+pub record HexAs (l : List ℕ) (r : Option ℕ) (before after : List ℕ) : Type 0 where
+  pub told : r ≡ cond (is_octets l) (Some (length (octets_in l))) None
   pub octets : after ≡ cond (is_octets l) (over (octets_in l) before) before
 
 -- a word with a number after it; no other word has just a number

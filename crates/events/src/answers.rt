@@ -1,5 +1,5 @@
 // The lines that are printed.
-ghost use Rattle.std.specs.Prelude.{[], ◌∷◌, ◌++◌, ◌+◌, ◌*◌, ◌≤◌, length, get_or};
+ghost use Rattle.std.specs.Prelude.{◌≡◌, [], ◌∷◌, ◌++◌, ◌+◌, ◌*◌, ◌≤◌, length, get_or};
 ghost use Rattle.plan.specs.Line.{tab, lf};
 ghost use Rattle.events.specs.AnswerLine.{in_decimal, in_hex, outcomes, answered, refused, answer_line, fault_line};
 ghost use Rattle.events.specs.Read.{Put};
@@ -7,21 +7,28 @@ ghost use Rattle.events.specs.Read.{Put};
 use crate::numbers::{put_decimal, put_hex, put_number, put_word};
 use plan_lines::LF;
 
-// The word of an outcome and the tab behind it. An outcome that no call has, from 7 on, has no word.
+// The word of an outcome. An outcome that no call has, from 7 on, has no word. (Stays a number: a C entry answers it as one.)
+fn word_of(outcome: u8) -> &'static [u8]
+    ensures { result.now ≡ get_or outcomes outcome [] }
+{
+    match outcome {
+        0 => b"refused",
+        1 => b"forward",
+        2 => b"drop",
+        3 => b"loop",
+        4 => b"reply",
+        5 => b"replyforward",
+        6 => b"done",
+        7..=255 => b"",
+    }
+}
+
+// The same and the tab behind it.
 fn put_outcome(out: &mut [u8], at: usize, outcome: u8) -> usize
     requires { at + 13 ≤ length out.old }
     ensures { Put (get_or outcomes outcome [] ++ (tab ∷ [])) at result out.old out.new }
 {
-    match outcome {
-        0 => put_word(out, at, b"refused"),
-        1 => put_word(out, at, b"forward"),
-        2 => put_word(out, at, b"drop"),
-        3 => put_word(out, at, b"loop"),
-        4 => put_word(out, at, b"reply"),
-        5 => put_word(out, at, b"replyforward"),
-        6 => put_word(out, at, b"done"),
-        7..=255 => put_word(out, at, b""),
-    }
+    put_word(out, at, word_of(outcome))
 }
 
 // The two places that every line begins with.

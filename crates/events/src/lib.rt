@@ -15,10 +15,9 @@ pub const LINE_ROOM: usize = 4100;
 
 pub const FRAME_ROOM: usize = 2050;
 
-// A line of a log. A frame's octets stand in the reader's buffer, and here is how many.
+// A line of a log that can be read. A frame's octets stand in the reader's buffer, as memory is fixed, and here is how many.
 #[derive(Clone, Copy)]
 pub enum Logged {
-    Unreadable,
     Frame(u32, u32, usize),
     Tick(u32),
     Allow(u32),

@@ -12,6 +12,7 @@ use plan_lines::TAB;
 const DIGITS: usize = 20;
 
 // A number in decimal; answers the place behind it.
+// Stays a `while`: how many digits there are shows only when the first of them is left.
 pub fn put_decimal(out: &mut [u8], at: usize, x: u64) -> usize
     requires { at + 20 ≤ length out.old }
     ensures { Put (in_decimal x) at result out.old out.new }

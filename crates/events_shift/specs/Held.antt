@@ -3,14 +3,13 @@ use Rattle.std.specs.Prelude.{◌≡◌, List, [], ℕ, take}
 use Rattle.octets.specs.Octets.{over}
 use Rattle.calls.specs.Calls.{Entered}
 use Rattle.events.specs.declared.Logged.{Logged}
-use Rattle.events.specs.declared.Logged.TheVariants.{Unreadable, Frame, Tick, Allow, Prohibit, Notice, Restart}
-use Rattle.events.specs.Event.{Event, frame, tick, allow, prohibit, notice, restart, unreadable, event_of}
+use Rattle.events.specs.declared.Logged.TheVariants.{Frame, Tick, Allow, Prohibit, Notice, Restart}
+use Rattle.events.specs.Event.{Event, frame, tick, allow, prohibit, notice, restart, event_of}
 use Rattle.events.specs.Read.{octets_of, Put}
 use Rattle.events_shift.specs.Step.{entered, step}
 
--- the event, with its octets from the front of the buffer
+-- the event that was read, with its octets from the front of the buffer
 unfoldable pub event_in : Logged → List ℕ → Event
-event_in Unreadable room = unreadable
 event_in (Frame port side n) room = frame port side (take n room)
 event_in (Tick reading) room = tick reading
 event_in (Allow flow) room = allow flow
@@ -20,7 +19,6 @@ event_in (Restart reading) room = restart reading
 
 -- CALL-27: what was lent to the event's call: frame and notice calls alone have an output.
 unfoldable pub lent_to : Logged → List ℕ → List ℕ
-lent_to Unreadable out = []
 lent_to (Frame port side n) out = out
 lent_to (Tick reading) out = []
 lent_to (Allow flow) out = []

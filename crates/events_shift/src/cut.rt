@@ -2,7 +2,6 @@
 ghost use Rattle.std.specs.Prelude.{◌≡◌, ◌-◌, ◌≤◌, length, take, drop};
 ghost use Rattle.events_shift.specs.Kept.{Kept};
 
-use crate::steps::least;
 use octets::move_down;
 
 // What is kept of a line that has not ended: enough to tell that it is too long, if it is.
@@ -13,7 +12,7 @@ pub fn keep(buffer: &mut [u8], from: usize, upto: usize) -> usize
     requires { (from ≤ upto) × (upto ≤ length buffer.old) }
     ensures { Kept (take (upto - from) (drop from buffer.old)) result buffer.old buffer.new }
 {
-    let n = least(upto - from, KEPT);
+    let n = (upto - from).min(KEPT);
     move_down(buffer, from, from, from + n);
     n
 }

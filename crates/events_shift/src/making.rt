@@ -7,7 +7,7 @@ use crate::steps::LENGTHS;
 use events::put_fault;
 use tmavolice::tmavolice_make;
 
-// The outcome of a faulty plan.
+// The outcome of a faulty plan. (Stays a number: a C entry answers it as one.)
 const FAULT: u64 = 7;
 
 // Makes the unit at clock 0. The line of a faulty plan is written at the front of the output; answers how much was, which is nothing

@@ -19,6 +19,7 @@ pub struct Turn {
 }
 
 // Serves the lines that are whole, as long as there is room for an answer.
+// Stays a `while`: how many lines there is room for shows only as each of them is answered.
 pub fn serve_lines(
     image: &mut [u8],
     buffer: &[u8],
@@ -32,25 +33,27 @@ pub fn serve_lines(
     ensures { Turned image.old buffer.now from number out.old result
         image.new out.new }
 {
-    let mut from = from;
-    let mut number = number;
-    let mut at = 0;
-    while STEP_ROOM <= out.len() - at {
-        let end = end_of(buffer, from, LF);
+    let mut turn = Turn {
+        from,
+        number,
+        at: 0,
+    };
+    while STEP_ROOM <= out.len() - turn.at {
+        let end = end_of(buffer, turn.from, LF);
         if end == buffer.len() {
-            return Turn {
-                from: from,
-                number: number,
-                at: at,
-            };
+            return turn;
         }
-        at = step(image, number, &buffer[from..end], frame, sent, out, at);
-        number += 1;
-        from = end + 1;
+        turn.at = step(
+            image,
+            turn.number,
+            &buffer[turn.from..end],
+            frame,
+            sent,
+            out,
+            turn.at,
+        );
+        turn.number += 1;
+        turn.from = end + 1;
     }
-    Turn {
-        from: from,
-        number: number,
-        at: at,
-    }
+    turn
 }

@@ -1,5 +1,5 @@
 // One line of a log, run on the image and answered by a line.
-ghost use Rattle.std.specs.Prelude.{◌≡◌, ◌+◌, ◌*◌, ◌≤◌, min, [], length};
+ghost use Rattle.std.specs.Prelude.{◌≡◌, ◌+◌, ◌*◌, ◌≤◌, [], length};
 ghost use Rattle.events.specs.declared.Logged.TheVariants.{Frame};
 ghost use Rattle.events.specs.AnswerLine.{answer_line};
 ghost use Rattle.events.specs.Read.{Put};
@@ -15,20 +15,11 @@ use tmavolice::{
 // What a call is lent for the octets that it sends.
 pub const OUT_ROOM: usize = 2008;
 
-// What a line that can't be read is answered: refused, with 9.
+// What a line that can't be read is answered: refused, with 9. (Stays a number, as what a C entry answers: outcome, refusal and length in one.)
 const CANNOT_BE_READ: u64 = 9 * 256;
 
 // What stands above the low 32 bits of an answer is the length written, or the line of a faulty plan.
 pub const LENGTHS: u64 = 4294967296;
-
-pub fn least(a: usize, b: usize) -> usize
-    ensures { result ≡ min a b }
-{
-    if a < b {
-        return a;
-    }
-    b
-}
 
 // The line of a call, by the number that it answered and what it was lent.
 fn put_call(out: &mut [u8], at: usize, number: u64, word: &[u8], answer: u64, lent: &[u8]) -> usize
@@ -40,8 +31,35 @@ fn put_call(out: &mut [u8], at: usize, number: u64, word: &[u8], answer: u64, le
     if outcome == 0 {
         return put_refusal(out, at, number, word, (answer / 256 % 256) as u8);
     }
-    let n = least((answer / LENGTHS) as usize, lent.len());
+    let n = ((answer / LENGTHS) as usize).min(lent.len());
     put_answer(out, at, number, word, outcome, &lent[0..n])
+}
+
+fn word_of(event: Logged) -> &'static [u8]
+    ensures { (result.now ≡ word_of (event_in event [])) × (length result.now ≤ 8) }
+{
+    match event {
+        Logged::Frame(_, _, _) => b"frame",
+        Logged::Tick(_) => b"tick",
+        Logged::Allow(_) => b"allow",
+        Logged::Prohibit(_) => b"prohibit",
+        Logged::Notice => b"notice",
+        Logged::Restart(_) => b"restart",
+    }
+}
+
+// What the call of an event was lent.
+fn lent_of(event: Logged, sent: &[u8]) -> &[u8]
+    ensures { (result.now ≡ lent_to event sent.now) × (length result.now ≤ length sent.now) }
+{
+    match event {
+        Logged::Frame(_, _, _) => sent,
+        Logged::Notice => sent,
+        Logged::Tick(_) => b"",
+        Logged::Allow(_) => b"",
+        Logged::Prohibit(_) => b"",
+        Logged::Restart(_) => b"",
+    }
 }
 
 // The line of an event.
@@ -57,15 +75,8 @@ fn put_event(
     ensures { Put (answer_line number (word_of (event_in event [])) (got_of answer (lent_to event sent.now))) at result
         out.old out.new }
 {
-    match event {
-        Logged::Unreadable => put_call(out, at, number, b"bad", answer, b""),
-        Logged::Frame(_, _, _) => put_call(out, at, number, b"frame", answer, sent),
-        Logged::Tick(_) => put_call(out, at, number, b"tick", answer, b""),
-        Logged::Allow(_) => put_call(out, at, number, b"allow", answer, b""),
-        Logged::Prohibit(_) => put_call(out, at, number, b"prohibit", answer, b""),
-        Logged::Notice => put_call(out, at, number, b"notice", answer, sent),
-        Logged::Restart(_) => put_call(out, at, number, b"restart", answer, b""),
-    }
+    let lent = lent_of(event, sent);
+    put_call(out, at, number, word_of(event), answer, lent)
 }
 
 // A frame's octets, from the front of their buffer.
@@ -81,7 +92,7 @@ fn hand_in(
         (Frame port side n) result image.new sent.old sent.new }
 {
     let room = &frame[..];
-    let end = least(n, room.len());
+    let end = n.min(room.len());
     tmavolice_frame(image, port, side, &room[0..end], sent)
 }
 
@@ -91,7 +102,6 @@ fn make_call(image: &mut [u8], event: Logged, frame: &[u8; FRAME_ROOM], sent: &m
         event result image.new sent.old sent.new }
 {
     match event {
-        Logged::Unreadable => CANNOT_BE_READ,
         Logged::Frame(port, side, n) => hand_in(image, port, side, frame, n, sent),
         Logged::Tick(reading) => tmavolice_tick(image, reading),
         Logged::Allow(flow) => tmavolice_allow(image, flow),
@@ -116,7 +126,11 @@ pub fn step(
     ensures { Taken image.old number line.now frame.old sent.old
         out.old at result image.new frame.new sent.new out.new }
 {
-    let event = read_event(line, frame);
-    let answer = make_call(image, event, frame, sent);
-    put_event(out, at, number, event, answer, sent)
+    match read_event(line, frame) {
+        None => put_call(out, at, number, b"bad", CANNOT_BE_READ, b""),
+        Some(event) => {
+            let answer = make_call(image, event, frame, sent);
+            put_event(out, at, number, event, answer, sent)
+        }
+    }
 }

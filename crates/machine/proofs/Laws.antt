@@ -1,8 +1,8 @@
 -- Laws of the machine's tests, for the proofs of its functions.
 use Rattle.std.proofs.Common.{◌≡◌, ℕ, ◌+◌, ◌-◌, ◌<◌, ◌≤◌, true, false, eqb, leb, refl, arith, le-leb}
-use mathlib.Core.Bool.{and-false}
 use borrow.Author.Tests.{lt-leb}
 use Rattle.octets.specs.Lists.{within}
+use Rattle.octets.proofs.ListLaws.{within_high}
 use Rattle.octets.proofs.Cases.{by_eq, by_le}
 use Rattle.machine.specs.declared.Session.{Session}
 use Rattle.machine.specs.Table.{Condition, prohibited, inactive, active, condition_number, condition_at}
@@ -16,13 +16,9 @@ pub seconds_good : (n : ℕ) → 1 ≤ n → n ≤ 86400 → good_seconds n ≡ 
 unfolding good_seconds within
 seconds_good n low high = rw (le-leb _ _ low, le-leb _ _ high)
 
-pub seconds_none : (n : ℕ) → n < 1 → good_seconds n ≡ false
-unfolding good_seconds within
-seconds_none n h = rw (lt-leb _ _ h)
-
-pub seconds_many : (n : ℕ) → 86400 < n → good_seconds n ≡ false
-unfolding good_seconds within
-seconds_many n h = rw (lt-leb n 86400 h, and-false (leb 1 n))
+pub seconds_few : (n : ℕ) → good_seconds n ≡ true → n ≤ 86400
+unfolding good_seconds
+seconds_few n good = within_high 1 86400 n good
 
 -- ---- the table's numbers
 

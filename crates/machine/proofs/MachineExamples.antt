@@ -8,11 +8,10 @@ use Rattle.machine.specs.declared.Machine.{Machine}
 use Rattle.machine.specs.declared.Machine.TheVariants.{Inactive, Active}
 use Rattle.machine.specs.declared.Change.{Change}
 use Rattle.machine.specs.declared.Change.TheVariants.{Same, Opened, Restarted, Closed}
-use Rattle.machine.specs.declared.Decided.{Decided}
 use Rattle.machine.specs.declared.Fate.{Fate}
 use Rattle.machine.specs.declared.Fate.TheVariants.{Forward, Drop, Loop}
 use Rattle.machine.specs.Table.{Event, rqst_activate, rqst_deactivate, rqst_state, action_of}
-use Rattle.machine.specs.Machine.{activity, condition_of, key, lasting, good_seconds, answered, admitted, same_mp, restarted, refreshed, closed}
+use Rattle.machine.specs.Machine.{Decision, activity, condition_of, key, lasting, good_seconds, answered, admitted, same_mp, restarted, refreshed, closed}
 use Rattle.machine.specs.Machine.{decided, after, passes, turned, fate_of, data_event}
 
 -- a session at the MP of a level and side, opened by a frame with this tag
@@ -40,16 +39,16 @@ now = 0x8100E014
 abbrev activated : ℕ → ℕ → Machine
 activated level side = Active (session first level side 30000)
 
-abbrev answer : ℕ → Change → Decided
+abbrev answer : ℕ → Change → Decision
 answer code change = record { code = code; change = change }
 
-decides : Machine → Event → ℕ → ℕ → ℕ → ℕ → Decided
+decides : Machine → Event → ℕ → ℕ → ℕ → ℕ → Decision
 unfolding decided admitted restarted refreshed closed answered same_mp good_seconds lasting within condition_of activity action_of
 decides m event seconds full level side =
     decided (action_of (condition_of true m) event) full seconds (session now level side 0) m
 
 -- the machine; the request, its seconds, 0 or the code of a full table, the level and side of its MP; the answer
-abbrev answers : List (Machine × Event × ℕ × ℕ × ℕ × ℕ × Decided)
+abbrev answers : List (Machine × Event × ℕ × ℕ × ℕ × ℕ × Decision)
 answers =
     -- inactive: seconds not 1 to 86,400: 6; 16 open: 2; else open, 0
     (Inactive, rqst_activate, 0, 0, 4, cen, answer 6 Same)

@@ -1,5 +1,5 @@
 -- "Time", and what a reply says of it, by computation.
-use Rattle.std.proofs.Common.{◌≡◌, ℕ, Bool, true, false, List, [], ◌∷◌, map, refl}
+use Rattle.std.proofs.Common.{◌≡◌, ℕ, Bool, true, false, List, [], ◌∷◌, map, refl, Some, None}
 use Rattle.codec.specs.FrameSet.{cen}
 use Rattle.machine.specs.declared.Session.{Session}
 use Rattle.machine.specs.declared.Machine.TheVariants.{Inactive, Active}
@@ -86,6 +86,6 @@ seconds_left_are_rounded_up = refl
 
 status_of_a_machine :
     map status_of (Inactive ∷ Active (session 1001 0) ∷ []) ≡
-    record { active = false; side = 0; seconds = 0 } ∷ record { active = true; side = cen; seconds = 2 } ∷ []
+    None ∷ Some (record { side = cen; seconds = 2 }) ∷ []
 unfolding status_of seconds_left
 status_of_a_machine = refl

@@ -1,5 +1,6 @@
 -- The machine (MACHINE): what a request and a data frame do to the session of one machine.
-use Rattle.std.specs.Prelude.{ℕ, ◌+◌, ◌*◌, ◌/◌, ◌^◌, Bool, true, false, cond, ◌&&◌, ◌==◌, nat_le}
+use Rattle.std.specs.Prelude.{ℕ, ◌+◌, ◌*◌, ◌/◌, ◌^◌, Bool, cond, ◌&&◌, ◌==◌, nat_le}
+use Rattle.std.specs.Prelude.{Option, Some, None}
 use Rattle.octets.specs.Lists.{within}
 use Rattle.codec.specs.FrameSet.{external}
 use Rattle.codec.specs.declared.Status.{Status}
@@ -8,6 +9,20 @@ use Rattle.machine.specs.declared.Machine.{Machine}
 use Rattle.machine.specs.declared.Machine.TheVariants.{Inactive, Active}
 use Rattle.machine.specs.declared.Change.{Change}
 use Rattle.machine.specs.declared.Change.TheVariants.{Same, Opened, Restarted, Closed}
+use Rattle.machine.specs.declared.codes.Code.{Code}
+use Rattle.machine.specs.declared.codes.Code.TheVariants.{
+  NoError,
+  MalformedRequest,
+  MaxSessionsExceeded,
+  AlreadyActive,
+  AlreadyInactive,
+  Unsupported,
+  WrongMp,
+  Timeout,
+  Prohibited,
+  UnknownMessageType,
+  UnknownError,
+}
 use Rattle.machine.specs.declared.Decided.{Decided}
 use Rattle.machine.specs.declared.Fate.{Fate}
 use Rattle.machine.specs.declared.Fate.TheVariants.{Forward, Drop, Loop}
@@ -66,13 +81,40 @@ owed code s =
 unfoldable pub good_seconds : ℕ → Bool
 good_seconds seconds = within 1 86400 seconds
 
+-- MACHINE-19: the octet of each response code.
+abbrev pub code_octet : Code → ℕ
+code_octet NoError = 0
+code_octet MalformedRequest = 1
+code_octet MaxSessionsExceeded = 2
+code_octet AlreadyActive = 4
+code_octet AlreadyInactive = 5
+code_octet Unsupported = 6
+code_octet WrongMp = 7
+code_octet Timeout = 8
+code_octet Prohibited = 9
+code_octet UnknownMessageType = 10
+code_octet UnknownError = 255
+
+-- the answer to a request in numbers: the octet of its code, and what becomes of the session
+pub record Decision : Type 0 where
+  pub code : ℕ
+  pub change : Change
+
+-- what the code answers, in numbers
+abbrev pub numbered : Decided → Decision
+numbered d = record { code = code_octet d.code; change = d.change }
+
+-- is the unit full, as a code: 2 if it is, and 0, which is no such code, if not
+abbrev pub full_code : Bool → ℕ
+full_code full = cond full 2 0
+
 -- MACHINE-15: a code, and no change.
-unfoldable pub answered : ℕ → Decided
+unfoldable pub answered : ℕ → Decision
 answered code = record { code = code; change = Same }
 
 -- MACHINE-3, MACHINE-13, MACHINE-16, TIME-6: at an inactive machine 6 with bad seconds, else the code `full` if it is not 0, else 0 and a
 -- session opens, whose time runs from the last accepted reading.
-unfoldable pub admitted : ℕ → ℕ → Session → Decided
+unfoldable pub admitted : ℕ → ℕ → Session → Decision
 admitted full seconds new =
     cond (good_seconds seconds)
     (cond (full == 0) (record { code = 0; change = Opened (lasting (seconds * 1000) new) }) (answered full))
@@ -84,25 +126,25 @@ same_mp new s = new.level == s.level && new.side == s.side
 
 -- MACHINE-4, MACHINE-5, MACHINE-13, MACHINE-17: an Activate at an active machine: 7 at another MP, whatever the seconds; 6 with bad
 -- seconds; else 4, and only the time left changes.
-unfoldable pub refreshed : ℕ → Session → Session → Decided
+unfoldable pub refreshed : ℕ → Session → Session → Decision
 refreshed seconds new s =
     cond (same_mp new s)
     (cond (good_seconds seconds) (record { code = 4; change = Restarted (lasting (seconds * 1000) s) }) (answered 6))
     (answered 7)
 
 -- MACHINE-4, MACHINE-5: the same, said of any machine. (The table asks for this, and for a close, of an active machine alone.)
-unfoldable pub restarted : ℕ → Session → Machine → Decided
+unfoldable pub restarted : ℕ → Session → Machine → Decision
 restarted seconds new Inactive = answered 7
 restarted seconds new (Active s) = refreshed seconds new s
 
 -- MACHINE-7, MACHINE-8: a Deactivate at an active machine: 7 at another MP; else 0, and the session closes.
-unfoldable pub closed : Session → Machine → Decided
+unfoldable pub closed : Session → Machine → Decision
 closed new Inactive = answered 7
 closed new (Active s) = cond (same_mp new s) (record { code = 0; change = Closed }) (answered 7)
 
 -- FORM-2: what a request's action does, on an allowed flow: MACHINE-3, MACHINE-4, MACHINE-5, MACHINE-6, MACHINE-7, MACHINE-8, MACHINE-9,
 -- MACHINE-10, MACHINE-11. `new` is the session that an Activate would open. Any other number gets 255; no call comes to that.
-unfoldable pub decided : ℕ → ℕ → ℕ → Session → Machine → Decided
+unfoldable pub decided : ℕ → ℕ → ℕ → Session → Machine → Decision
 decided action full seconds new m =
     cond (action == admit) (admitted full seconds new)
     (cond (action == restart) (restarted seconds new m)
@@ -141,7 +183,7 @@ data_event side = cond (side == external) ingress_data egress_data
 unfoldable pub seconds_left : ℕ → ℕ
 seconds_left ms = (ms + 999) / 1000
 
--- REPLY-7, REPLY-8, REPLY-12: what a reply says of a machine: is it active, its session's side, and the seconds left, 0 if inactive.
-unfoldable pub status_of : Machine → Status
-status_of Inactive = record { active = false; side = 0; seconds = 0 }
-status_of (Active s) = record { active = true; side = s.side; seconds = seconds_left s.left }
+-- REPLY-7, REPLY-8, REPLY-12: what a reply says of a machine: of an active one its session's side and the seconds left, else nothing.
+unfoldable pub status_of : Machine → Option Status
+status_of Inactive = None
+status_of (Active s) = Some (record { side = s.side; seconds = seconds_left s.left })

@@ -1,11 +1,9 @@
--- Time (TIME): elapsed time, a session as time passes, and what is done to every session at once.
+-- Time (TIME): elapsed time, and a session as time passes.
 use Rattle.std.specs.Prelude.{ℕ, ◌+◌, ◌-◌, ◌%◌, ◌^◌, Bool, cond, nat_le}
 use Rattle.machine.specs.declared.Session.{Session}
-use Rattle.machine.specs.declared.Sweep.{Sweep}
-use Rattle.machine.specs.declared.Sweep.TheVariants.{Ticked, Managed}
 use Rattle.machine.specs.Table.{active, timer_expiration, action_of}
 use Rattle.machine.specs.Machine.{is_open, lasting}
-use Rattle.machine.specs.Management.{closed_by, managed_by}
+use Rattle.machine.specs.Management.{closed_by}
 
 -- TIME-2: elapsed time is the new reading minus the last accepted one, modulo 2^32.
 unfoldable pub elapsed : ℕ → ℕ → ℕ
@@ -21,8 +19,3 @@ ticked passed s =
     cond (is_open s)
     (cond (nat_le s.left passed) (closed_by (action_of active timer_expiration) s) (lasting (s.left - passed) s))
     s
-
--- a session after what is done to all
-unfoldable pub swept : Sweep → Session → Session
-swept (Ticked passed) s = ticked passed s
-swept (Managed action flow) s = managed_by action flow s

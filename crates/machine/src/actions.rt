@@ -1,4 +1,5 @@
 // The actions by their numbers; specs/Table.antt says what each is.
+// Stays numbers: an entry of the table is the number of an action, and `decide` and the like are passed it (docs/RULES.md, FORM-2).
 pub const NOTHING: u8 = 0;
 
 pub const FORWARD: u8 = 1;

@@ -1,22 +1,27 @@
 // Response codes by the names of MEF 46 Table 4.
-pub const NO_ERROR: u8 = 0;
+ghost use Rattle.std.specs.Prelude.{◌≡◌};
+ghost use Rattle.machine.specs.Machine.{code_octet};
 
-pub const MALFORMED_REQUEST: u8 = 1;
+#[derive(Clone, Copy)]
+pub enum Code {
+    NoError = 0,
+    MalformedRequest = 1,
+    MaxSessionsExceeded = 2,
+    AlreadyActive = 4,
+    AlreadyInactive = 5,
+    Unsupported = 6,
+    WrongMp = 7,
+    Timeout = 8,
+    Prohibited = 9,
+    UnknownMessageType = 10,
+    UnknownError = 255,
+}
 
-pub const MAX_SESSIONS_EXCEEDED: u8 = 2;
-
-pub const ALREADY_ACTIVE: u8 = 4;
-
-pub const ALREADY_INACTIVE: u8 = 5;
-
-pub const UNSUPPORTED: u8 = 6;
-
-pub const WRONG_MP: u8 = 7;
-
-pub const TIMEOUT: u8 = 8;
-
-pub const PROHIBITED: u8 = 9;
-
-pub const UNKNOWN_MESSAGE_TYPE: u8 = 10;
-
-pub const UNKNOWN_ERROR: u8 = 255;
+impl Code {
+    // The octet of a reply or of a notice.
+    pub fn octet(self) -> u8
+        ensures { result ≡ code_octet self }
+    {
+        self as u8
+    }
+}

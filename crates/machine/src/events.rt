@@ -1,4 +1,5 @@
 // The three states and the eight events by their numbers, the rows and the columns of the table.
+// Stays numbers: the table is a constant array of arrays, and these are its indices (docs/RULES.md, FORM-2).
 pub const PROHIBITED: usize = 0;
 
 pub const INACTIVE: usize = 1;

@@ -12,19 +12,19 @@ mod time;
 mod traffic;
 
 pub use actions::ADMIT;
-pub use codes::{
-    MALFORMED_REQUEST, MAX_SESSIONS_EXCEEDED, PROHIBITED, TIMEOUT, UNKNOWN_MESSAGE_TYPE,
-};
+pub use codes::Code;
 pub use events::{ACTIVE, MGMT_ALLOW, MGMT_PROHIBIT, RQST_ACTIVATE, RQST_DEACTIVATE, RQST_STATE};
-pub use management::allowed_after;
+pub use management::{allowed_after, managed_by};
 pub use request::decide;
 pub use sessions::{key, status_after};
 pub use table::{action, condition_of};
-pub use time::{elapsed, jumped, swept};
+pub use time::{elapsed, jumped, ticked};
 pub use traffic::{data_event, fate_of};
 
 // A session of a flow and a source address. The tag is the number of its octets, of which there are `taglen`. A session is open
 // while `notice` is 0; closed, it is owed a notice with that code and has no time left.
+// Stays numbers, level, side and notice: `state_of` and `ok_image` (state specs/Image) read each octet of an image as it stands, and
+// which are right is said by validity.
 #[derive(Clone, Copy)]
 pub struct Session {
     pub flow: u16,
@@ -38,6 +38,7 @@ pub struct Session {
 }
 
 // The machine of one port, frame set and source address on an allowed flow.
+// Stays an enum of its own, though of Option's shape: its cases are the states of MEF 46 by their names there.
 #[derive(Clone, Copy)]
 pub enum Machine {
     Inactive,
@@ -56,7 +57,7 @@ pub enum Change {
 // The answer to a request: its response code, and what becomes of the session.
 #[derive(Clone, Copy)]
 pub struct Decided {
-    pub code: u8,
+    pub code: Code,
     pub change: Change,
 }
 
@@ -66,11 +67,4 @@ pub enum Fate {
     Forward,
     Drop,
     Loop,
-}
-
-// What is done to every session at once: so many milliseconds pass, or an action of management on a flow is carried out.
-#[derive(Clone, Copy)]
-pub enum Sweep {
-    Ticked(u32),
-    Managed(u8, u16),
 }

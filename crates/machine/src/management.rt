@@ -3,51 +3,39 @@ ghost use Rattle.std.specs.Prelude.{◌≡◌};
 ghost use Rattle.machine.specs.Management.{closed_by, managed_by, allowed_after};
 
 use crate::Session;
-use crate::actions::{EXPIRE, FORBID, LIFT, NOTHING, WITHDRAW};
-use crate::codes::{PROHIBITED, TIMEOUT, UNKNOWN_ERROR};
+use crate::actions::{EXPIRE, LIFT, NOTHING, WITHDRAW};
+use crate::codes::Code;
 use crate::sessions::owed;
 
 // An action carried out on an open session.
 pub fn closed_by(action: u8, s: Session) -> Session
     ensures { result ≡ closed_by action s }
 {
-    if action == NOTHING {
-        return s;
+    match action {
+        NOTHING => s,
+        EXPIRE => owed(Code::Timeout, s),
+        WITHDRAW => owed(Code::Prohibited, s),
+        _ => owed(Code::UnknownError, s),
     }
-    if action == EXPIRE {
-        return owed(TIMEOUT, s);
-    }
-    if action == WITHDRAW {
-        return owed(PROHIBITED, s);
-    }
-    owed(UNKNOWN_ERROR, s)
 }
 
 // And on a session, if it is an open one of the flow.
 pub fn managed_by(action: u8, flow: u16, s: Session) -> Session
     ensures { result ≡ managed_by action flow s }
 {
-    if s.notice != 0 {
-        return s;
+    if s.notice == 0 && s.flow == flow {
+        return closed_by(action, s);
     }
-    if s.flow != flow {
-        return s;
-    }
-    closed_by(action, s)
+    s
 }
 
 // Is the flow allowed after an action?
 pub fn allowed_after(action: u8, allowed: bool) -> bool
     ensures { result ≡ allowed_after action allowed }
 {
-    if action == FORBID {
-        return false;
+    match action {
+        NOTHING => allowed,
+        LIFT => true,
+        _ => false,
     }
-    if action == WITHDRAW {
-        return false;
-    }
-    if action == NOTHING {
-        return allowed;
-    }
-    action == LIFT
 }

@@ -1,11 +1,9 @@
 // What a request's action does.
 ghost use Rattle.std.specs.Prelude.{◌≡◌, ◌*◌, ◌<◌};
-ghost use Rattle.machine.specs.Machine.{answered, admitted, same_mp, restarted, refreshed, closed, decided};
+ghost use Rattle.machine.specs.Machine.{answered, code_octet, numbered, full_code, good_seconds, admitted, same_mp, restarted, refreshed, closed, decided};
 
 use crate::actions::{ADMIT, ALREADY, CLOSE, REPORT, RESTART};
-use crate::codes::{
-    ALREADY_ACTIVE, ALREADY_INACTIVE, NO_ERROR, UNKNOWN_ERROR, UNSUPPORTED, WRONG_MP,
-};
+use crate::codes::Code;
 use crate::sessions::{SECOND, lasting};
 use crate::{Change, Decided, Machine, Session};
 
@@ -13,8 +11,8 @@ use crate::{Change, Decided, Machine, Session};
 const MOST_SECONDS: u32 = 86400;
 
 // A failed request changes nothing.
-fn answered(code: u8) -> Decided
-    ensures { result ≡ answered code }
+fn answered(code: Code) -> Decided
+    ensures { numbered result ≡ answered (code_octet code) }
 {
     Decided {
         code,
@@ -22,21 +20,25 @@ fn answered(code: u8) -> Decided
     }
 }
 
-// Activate at an inactive machine. `full` is 0 when one more session may open.
-fn admitted(full: u8, seconds: u32, new: Session) -> Decided
-    ensures { result ≡ admitted full seconds new }
+// Does a session last so long?
+fn good_seconds(seconds: u32) -> bool
+    ensures { result ≡ good_seconds seconds }
 {
-    if seconds < 1 {
-        return answered(UNSUPPORTED);
+    matches!(seconds, 1..=MOST_SECONDS)
+}
+
+// Activate at an inactive machine. `full` is whether no more session may open.
+fn admitted(full: bool, seconds: u32, new: Session) -> Decided
+    ensures { numbered result ≡ admitted (full_code full) seconds new }
+{
+    if !good_seconds(seconds) {
+        return answered(Code::Unsupported);
     }
-    if MOST_SECONDS < seconds {
-        return answered(UNSUPPORTED);
-    }
-    if full != 0 {
-        return answered(full);
+    if full {
+        return answered(Code::MaxSessionsExceeded);
     }
     Decided {
-        code: NO_ERROR,
+        code: Code::NoError,
         change: Change::Opened(lasting(seconds * SECOND, new)),
     }
 }
@@ -44,77 +46,57 @@ fn admitted(full: u8, seconds: u32, new: Session) -> Decided
 fn same_mp(new: Session, s: Session) -> bool
     ensures { result ≡ same_mp new s }
 {
-    if new.level != s.level {
-        return false;
-    }
-    if new.side != s.side {
-        return false;
-    }
-    true
+    new.level == s.level && new.side == s.side
 }
 
 // Activate at an active machine.
 fn restarted(seconds: u32, new: Session, m: Machine) -> Decided
-    ensures { result ≡ restarted seconds new m }
+    ensures { numbered result ≡ restarted seconds new m }
 {
     match m {
-        Machine::Inactive => answered(WRONG_MP),
+        Machine::Inactive => answered(Code::WrongMp),
         Machine::Active(s) => refreshed(seconds, new, s),
     }
 }
 
 fn refreshed(seconds: u32, new: Session, s: Session) -> Decided
-    ensures { result ≡ refreshed seconds new s }
+    ensures { numbered result ≡ refreshed seconds new s }
 {
-    if same_mp(new, s) {
-        if seconds < 1 {
-            return answered(UNSUPPORTED);
-        }
-        if MOST_SECONDS < seconds {
-            return answered(UNSUPPORTED);
-        }
-        return Decided {
-            code: ALREADY_ACTIVE,
-            change: Change::Restarted(lasting(seconds * SECOND, s)),
-        };
+    if !same_mp(new, s) {
+        return answered(Code::WrongMp);
     }
-    answered(WRONG_MP)
+    if !good_seconds(seconds) {
+        return answered(Code::Unsupported);
+    }
+    Decided {
+        code: Code::AlreadyActive,
+        change: Change::Restarted(lasting(seconds * SECOND, s)),
+    }
 }
 
 // Deactivate at an active machine.
 fn closed(new: Session, m: Machine) -> Decided
-    ensures { result ≡ closed new m }
+    ensures { numbered result ≡ closed new m }
 {
-    let Machine::Active(s) = m else {
-        return answered(WRONG_MP);
-    };
-    if same_mp(new, s) {
-        return Decided {
-            code: NO_ERROR,
+    match m {
+        Machine::Active(s) if same_mp(new, s) => Decided {
+            code: Code::NoError,
             change: Change::Closed,
-        };
+        },
+        _ => answered(Code::WrongMp),
     }
-    answered(WRONG_MP)
 }
 
 // The request's action carried out. `new` is the session that an Activate would open.
-pub fn decide(action: u8, full: u8, seconds: u32, new: Session, m: Machine) -> Decided
-    ensures { result ≡ decided action full seconds new m }
+pub fn decide(action: u8, full: bool, seconds: u32, new: Session, m: Machine) -> Decided
+    ensures { numbered result ≡ decided action (full_code full) seconds new m }
 {
-    if action == ADMIT {
-        return admitted(full, seconds, new);
+    match action {
+        ADMIT => admitted(full, seconds, new),
+        RESTART => restarted(seconds, new, m),
+        ALREADY => answered(Code::AlreadyInactive),
+        CLOSE => closed(new, m),
+        REPORT => answered(Code::NoError),
+        _ => answered(Code::UnknownError),
     }
-    if action == RESTART {
-        return restarted(seconds, new, m);
-    }
-    if action == ALREADY {
-        return answered(ALREADY_INACTIVE);
-    }
-    if action == CLOSE {
-        return closed(new, m);
-    }
-    if action == REPORT {
-        return answered(NO_ERROR);
-    }
-    answered(UNKNOWN_ERROR)
 }

@@ -1,7 +1,8 @@
 // One session: its key, its time, its notice, its status.
 ghost use Rattle.std.specs.Prelude.{◌≡◌, ◌+◌, ◌^◌, ◌<◌};
-ghost use Rattle.machine.specs.Machine.{key, lasting, owed, after, seconds_left, status_of};
+ghost use Rattle.machine.specs.Machine.{code_octet, key, lasting, owed, after, seconds_left, status_of};
 
+use crate::codes::Code;
 use crate::{Change, Machine, Session};
 use codec::Status;
 
@@ -16,51 +17,42 @@ pub fn key(flow: u16, source: u64) -> u64
     requires { source < 2 ^ 48 }
     ensures { result ≡ key flow source }
 {
-    flow as u64 * SOURCES + source
+    u64::from(flow) * SOURCES + source
 }
 
 pub fn lasting(ms: u32, s: Session) -> Session
     ensures { result ≡ lasting ms s }
 {
-    let mut t = s;
-    t.left = ms;
-    t
+    Session { left: ms, ..s }
 }
 
 // Closed, and owed a notice with this code.
-pub fn owed(code: u8, s: Session) -> Session
-    ensures { result ≡ owed code s }
+pub fn owed(code: Code, s: Session) -> Session
+    ensures { result ≡ owed (code_octet code) s }
 {
-    let mut t = s;
-    t.left = 0;
-    t.notice = code;
-    t
+    Session {
+        left: 0,
+        notice: code.octet(),
+        ..s
+    }
 }
 
 // Seconds left, rounded up.
 pub fn seconds_left(ms: u32) -> u32
     ensures { result ≡ seconds_left ms }
 {
-    if ms % SECOND == 0 {
-        return ms / SECOND;
-    }
-    ms / SECOND + 1
+    ms.div_ceil(SECOND)
 }
 
-pub fn status_of(m: Machine) -> Status
+pub fn status_of(m: Machine) -> Option<Status>
     ensures { result ≡ status_of m }
 {
     match m {
-        Machine::Inactive => Status {
-            active: false,
-            side: 0,
-            seconds: 0,
-        },
-        Machine::Active(s) => Status {
-            active: true,
+        Machine::Inactive => None,
+        Machine::Active(s) => Some(Status {
             side: s.side,
             seconds: seconds_left(s.left),
-        },
+        }),
     }
 }
 
@@ -70,14 +62,13 @@ pub fn after(change: Change, m: Machine) -> Machine
 {
     match change {
         Change::Same => m,
-        Change::Opened(s) => Machine::Active(s),
-        Change::Restarted(s) => Machine::Active(s),
+        Change::Opened(s) | Change::Restarted(s) => Machine::Active(s),
         Change::Closed => Machine::Inactive,
     }
 }
 
 // What a reply says of the machine after a change.
-pub fn status_after(change: Change, m: Machine) -> Status
+pub fn status_after(change: Change, m: Machine) -> Option<Status>
     ensures { result ≡ status_of (after change m) }
 {
     status_of(after(change, m))

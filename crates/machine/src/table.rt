@@ -10,6 +10,7 @@ use crate::actions::{
 use crate::events::{ACTIVE, INACTIVE, PROHIBITED};
 
 // State by event, as MEF 46 7.1.5 has them: the action that the step carries out.
+// Stays an array of numbers: FORM-2 of docs/RULES.md asks for it, a row for each state and a column for each event.
 pub const ACTION: [[u8; 8]; 3] = [
     [
         NOTHING, // prohibited, activate

@@ -24,11 +24,7 @@ pub fn data_event(side: u8) -> usize
 fn passes(soam: bool, level: u8, s: Session) -> bool
     ensures { result ≡ passes soam level s }
 {
-    if soam {
-        let own = s.level;
-        return level <= own;
-    }
-    false
+    soam && level <= s.level
 }
 
 fn turned(soam: bool, level: u8, side: u8, m: Machine) -> Fate
@@ -40,8 +36,7 @@ fn turned(soam: bool, level: u8, side: u8, m: Machine) -> Fate
     if passes(soam, level, s) {
         return Fate::Forward;
     }
-    let own = s.side;
-    if side == own {
+    if side == s.side {
         return Fate::Loop;
     }
     Fate::Drop
@@ -51,11 +46,9 @@ fn turned(soam: bool, level: u8, side: u8, m: Machine) -> Fate
 pub fn fate_of(action: u8, soam: bool, level: u8, side: u8, m: Machine) -> Fate
     ensures { result ≡ fate_of action soam level side m }
 {
-    if action == FORWARD {
-        return Fate::Forward;
+    match action {
+        FORWARD => Fate::Forward,
+        TURN => turned(soam, level, side, m),
+        _ => Fate::Drop,
     }
-    if action == TURN {
-        return turned(soam, level, side, m);
-    }
-    Fate::Drop
 }

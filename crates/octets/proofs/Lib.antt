@@ -12,3 +12,4 @@ pub mod Few
 pub mod MoveLaws
 mod Examples
 pub mod LowLaws
+pub mod Words

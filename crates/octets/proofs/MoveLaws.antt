@@ -1,23 +1,16 @@
--- Laws of octets cleared and moved in place: a turn of each loop, and its start.
+-- Laws of octets moved in place: a turn of each loop, and its start.
 use mathlib.Core.Path.{◌≡◌, sym, ap, ◌∙◌}
 use mathlib.Core.List.{List, [], ◌∷◌, ◌++◌, append_assoc}
 use Prim.Native.Nat.{ℕ, suc, ◌+◌, ◌-◌, ◌<◌, ◌≤◌}
 use native.Mathlib.Numerals.{add-one}
 use native.Mathlib.Omega.{arith}
-use lib.ListN.{length, get_or, take, drop, set, replicate, length-append, length-drop, get_or-append, take-append-drop}
+use lib.ListN.{length, get_or, take, drop, set, length-append, length-drop, get_or-append, take-append-drop}
 use lib.Seq.{drop-cons, drop-drop, take-suc, length-take-le, set_at, set_split, get_or-take, get_or-drop, get_or-append-add}
 use Rattle.octets.specs.Octets.{splice, moved_up, moved_down}
-use Rattle.octets.proofs.Over.{splice_splice}
 
 -- one octet stored is a run of one written there
 pub set_splice : (l : List ℕ) (i x : ℕ) → i < length l → set l i x ≡ splice i (x ∷ []) l
 set_splice l i x h = rw (drop-drop, add-one) (set_split l i x h)
-
-pub clear_turn : (l : List ℕ) (i high : ℕ) → i < high → high ≤ length l
-    → splice (i + 1) (replicate (high - (i + 1)) 0) (set l i 0) ≡ splice i (replicate (high - i) 0) l
-clear_turn l i high h fit =
-    let e : high - i ≡ suc (high - (i + 1)) = omega arith in
-    rw (set_splice l i 0 (omega arith), e) (splice_splice i (0 ∷ []) (replicate (high - (i + 1)) 0) l (omega arith))
 
 -- the octets above i, up to high, are moved up
 module _ (l : List ℕ) (by high i : ℕ) (h : i < high) (fit : high + by ≤ length l) where

@@ -8,14 +8,13 @@ use crate::low::low8;
 const WORD: usize = 8;
 
 // Copies src over the front of out.
+// Stays a loop: of the library's copy_from_slice the compiler makes a call of memmove, and docs/HOST.md promises that there is none.
 pub fn copy_into(out: &mut [u8], src: &[u8])
     requires { length src.now ≤ length out.old }
     ensures { out.new ≡ over src.now out.old }
 {
-    let mut i = 0;
-    while i < src.len() {
+    for i in 0..src.len() {
         out[i] = src[i];
-        i += 1;
     }
 }
 
@@ -32,11 +31,9 @@ fn zero_from(s: &[u8], at: usize) -> bool
     requires { at ≤ length s.now }
     ensures { result ≡ all_zero (drop at s.now) }
 {
-    let mut acc: u8 = 0;
-    let mut i = at;
-    while i < s.len() {
-        acc = acc | s[i];
-        i += 1;
+    let mut acc = 0;
+    for i in at..s.len() {
+        acc |= s[i];
     }
     acc == 0
 }
@@ -46,31 +43,16 @@ pub fn all_zero(s: &[u8]) -> bool
     ensures { result ≡ all_zero s.now }
 {
     let words = s.len() / WORD;
-    let mut acc: u64 = 0;
-    let mut i: usize = 0;
-    while i < words {
-        acc = acc | low8(s, i * WORD);
-        i += 1;
+    let mut acc = 0;
+    for i in 0..words {
+        acc |= low8(s, i * WORD);
     }
-    if acc != 0 {
-        return false;
-    }
-    zero_from(s, words * WORD)
+    acc == 0 && zero_from(s, words * WORD)
 }
 
 // Are the two runs the same?
 pub fn same_octets(a: &[u8], b: &[u8]) -> bool
     ensures { result ≡ same a.now b.now }
 {
-    if a.len() != b.len() {
-        return false;
-    }
-    let mut i = 0;
-    while i < a.len() {
-        if a[i] != b[i] {
-            return false;
-        }
-        i += 1;
-    }
-    true
+    a == b
 }

@@ -12,7 +12,7 @@ use Rattle.octets.specs.Lists.{every}
 use Rattle.octets.proofs.Same.{both_true}
 use Rattle.plan.specs.Plan.{Plan, no_port, no_flow, so_far}
 use Rattle.plan.specs.Records.{held_ports, held_flows, plan_of, filled, by_value}
-use Rattle.plan.proofs.HeldLaws.{Rows, port_rows, flow_rows}
+use Rattle.plan.proofs.HeldLaws.{Rows, held_rows}
 use Rattle.plan.proofs.Room.{ports_named, flows_named, ports_few, flows_few}
 
 -- rows that are filled hold what they were filled with
@@ -32,7 +32,7 @@ pub value_back : (plan : Plan) → so_far plan ≡ true → plan_of (by_value pl
 unfolding plan_of by_value no_port no_flow
 value_back plan h =
     let ports : held_ports (filled 8 no_port plan.ports) ≡ plan.ports =
-    held_filled port_rows no_port refl 8 plan.ports (ports_few plan h) (ports_named plan h) in
+    held_filled (held_rows (λ p. p.number)) no_port refl 8 plan.ports (ports_few plan h) (ports_named plan h) in
     let flows : held_flows (filled 32 no_flow plan.flows) ≡ plan.flows =
-    held_filled flow_rows no_flow refl 32 plan.flows (flows_few plan h) (flows_named plan h) in
+    held_filled (held_rows (λ f. f.number)) no_flow refl 32 plan.flows (flows_few plan h) (flows_named plan h) in
     λ i. record { ports = ports i; flows = flows i }

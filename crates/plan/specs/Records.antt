@@ -5,14 +5,16 @@ use Rattle.plan.specs.declared.Flow.{Flow}
 use Rattle.plan.specs.declared.Records.{Records}
 use Rattle.plan.specs.Plan.{Plan, no_port, no_flow}
 
--- the rows up to the first empty one
-unfoldable pub held_ports : List Port → List Port
-held_ports [] = []
-held_ports (p ∷ ps) = cond (eqb p.number 0) [] (p ∷ held_ports ps)
+-- the rows up to the first empty one, which has number 0
+unfoldable pub held : {A : Type 0} → (A → ℕ) → List A → List A
+held number [] = []
+held number (x ∷ xs) = cond (eqb (number x) 0) [] (x ∷ held number xs)
 
-unfoldable pub held_flows : List Flow → List Flow
-held_flows [] = []
-held_flows (f ∷ fs) = cond (eqb f.number 0) [] (f ∷ held_flows fs)
+abbrev pub held_ports : List Port → List Port
+held_ports = held (λ p. p.number)
+
+abbrev pub held_flows : List Flow → List Flow
+held_flows = held (λ f. f.number)
 
 -- the plan of such rows
 unfoldable pub plan_of : Records → Plan

@@ -11,6 +11,7 @@ pub use words::{
 };
 
 // A port: its kind is 1 UNI, 2 ENNI.
+// Stays a number, as the kinds of flows and MPs do: `ok_image` and `state_of` (state Image) read each from the image's octet as it stands.
 #[derive(Clone, Copy)]
 pub struct Port {
     pub number: u8,
@@ -31,6 +32,7 @@ pub struct Flow {
 
 // A plan by value: ports in ascending number, flows in ascending port and frame set. A row with number 0 is empty, and so is every row
 // behind it.
+// Stays so, with no Option: `by_value`, `no_port` and `no_flow` (specs/) say what each row holds, also one that is not used.
 #[derive(Clone, Copy)]
 pub struct Records {
     pub ports: [Port; PORTS],

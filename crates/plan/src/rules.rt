@@ -1,4 +1,6 @@
 // Rules of the plan: which way an MP faces, the order of flows, the addresses that a port may have.
+#![tactic(auto, unfolding(crate::specs::Plan::faces, crate::specs::Plan::set_key, crate::specs::Plan::good_address, octets::specs::Lists::within))]
+
 ghost use Rattle.std.specs.Prelude.{◌≡◌};
 ghost use Rattle.plan.specs.Plan.{faces, set_key, good_address};
 
@@ -13,19 +15,11 @@ const OF_KIND: u32 = 65536;
 pub fn faces(mp: u8, side: u8) -> bool
     ensures { result ≡ faces mp side }
 {
-    if side == CEN {
-        if mp == UP {
-            return true;
-        }
-        return mp == MIP;
+    match side {
+        CEN => mp == UP || mp == MIP,
+        EXTERNAL => mp == DOWN || mp == MIP,
+        _ => false,
     }
-    if side == EXTERNAL {
-        if mp == DOWN {
-            return true;
-        }
-        return mp == MIP;
-    }
-    false
 }
 
 // Port and frame set as one number, by which flows are ordered.
@@ -38,8 +32,5 @@ pub fn set_key(port: u8, kind: u8, vid: u16) -> u32
 pub fn good_address(address: u64) -> bool
     ensures { result ≡ good_address address }
 {
-    if is_group(address) {
-        return false;
-    }
-    address != 0
+    address != 0 && !is_group(address)
 }

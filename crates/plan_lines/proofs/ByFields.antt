@@ -1,11 +1,11 @@
 -- A line by its fields: what is learnt of each field, and what the line says then.
-use mathlib.Core.Path.{◌≡◌, refl, sym, ◌∙◌}
+use mathlib.Core.Path.{◌≡◌, refl}
 use mathlib.Core.Bool.{Bool, true, false, cond}
 use mathlib.Core.List.{List, [], ◌∷◌}
 use Prim.Native.Nat.{ℕ}
 use native.Mathlib.Omega.{arith}
 use lib.Dec.{leb}
-use borrow.Author.Tests.{le-leb, lt-leb}
+use Rattle.std.specs.Prelude.{Option, Some, None}
 use Rattle.plan.specs.Line.{
   is_number,
   number_in,
@@ -21,130 +21,119 @@ use Rattle.plan.specs.Line.{
   as_mp,
 }
 use Rattle.plan_lines.specs.CappedLine.{capped, said}
-use Rattle.plan_lines.specs.declared.Said.TheVariants.{Unreadable, OfPort, OfFlow, OfMp}
-use Rattle.plan_lines.specs.declared.fields.Digits.{Digits}
-use Rattle.plan_lines.specs.declared.fields.Digits.TheVariants.{NoNumber, Number}
-use Rattle.plan_lines.specs.declared.fields.Hex.{Hex}
-use Rattle.plan_lines.specs.declared.fields.Hex.TheVariants.{NoAddress, Address}
+use Rattle.plan_lines.specs.Fields.{found}
+use Rattle.plan_lines.specs.declared.Said.TheVariants.{OfPort, OfFlow, OfMp}
 use Rattle.plan_lines.proofs.Numbers.{read_number}
 
-pub by_test : {A : Type 0} (b : Bool) → (b ≡ true → A) → (b ≡ false → A) → A
-by_test true t f = t refl
-by_test false t f = f refl
-
-abbrev read_address : List ℕ → Hex
-read_address f = cond (is_address f) (Address (address_in f)) NoAddress
-
 -- a field that is read if it passes a test
-module _ {D : Type 0} (some : ℕ → D) (none : D) where
-  pub is_some : (b : Bool) (x : ℕ) {d : D} {n : ℕ} → (some x ≡ some n → n ≡ x) → (none ≡ some n → ⊥)
-      → d ≡ cond b (some x) none → d ≡ some n → (b ≡ true) × (n ≡ x)
-  is_some true x inside apart e h = (refl, inside (sym e ∙ h))
-  is_some false x inside apart e h = absurd (apart (sym e ∙ h))
+pub passed : (b : Bool) (x : ℕ) {n : ℕ} → cond b (Some x) None ≡ Some n → (b ≡ true) × (n ≡ x)
+passed true x e = (refl, cc)
+passed false x e = let z : ◌≡◌ {A = ℕ} 0 1 = cc in absurd (omega arith)
 
-  pub is_none : (b : Bool) (x : ℕ) {d : D} → (some x ≡ none → ⊥) → d ≡ cond b (some x) none → d ≡ none → b ≡ false
-  is_none true x apart e h = absurd (apart (sym e ∙ h))
-  is_none false x apart e h = refl
+pub failed : (b : Bool) (x : ℕ) → cond b (Some x) None ≡ None → b ≡ false
+failed true x e = let z : ◌≡◌ {A = ℕ} 0 1 = cc in absurd (omega arith)
+failed false x e = refl
 
-module _ (f : List ℕ) {d : Digits} (e : d ≡ read_number f) where
-  a_number : {n : ℕ} → d ≡ Number n → (is_number f ≡ true) × (n ≡ capped (number_in f))
-  a_number h =
-      is_some Number NoNumber (is_number f) (capped (number_in f)) (λ t. cc)
-      (λ t. let z : ◌≡◌ {A = ℕ} 0 1 = cc in omega arith) e h
+abbrev read_address : List ℕ → Option ℕ
+read_address f = cond (is_address f) (Some (address_in f)) None
 
-  no_number : d ≡ NoNumber → is_number f ≡ false
-  no_number h =
-      is_none Number NoNumber (is_number f) (capped (number_in f)) (λ t. let z : ◌≡◌ {A = ℕ} 0 1 = cc in omega arith) e h
+module _ (f : List ℕ) where
+  a_number : {n : ℕ} → read_number f ≡ Some n → (is_number f ≡ true) × (n ≡ capped (number_in f))
+  a_number h = passed (is_number f) (capped (number_in f)) h
 
-module _ (f : List ℕ) {d : Hex} (e : d ≡ read_address f) where
-  an_address : {n : ℕ} → d ≡ Address n → (is_address f ≡ true) × (n ≡ address_in f)
-  an_address h =
-      is_some Address NoAddress (is_address f) (address_in f) (λ t. cc) (λ t. let z : ◌≡◌ {A = ℕ} 0 1 = cc in omega arith) e h
+  no_number : read_number f ≡ None → is_number f ≡ false
+  no_number h = failed (is_number f) (capped (number_in f)) h
 
-  no_address : d ≡ NoAddress → is_address f ≡ false
-  no_address h = is_none Address NoAddress (is_address f) (address_in f) (λ t. let z : ◌≡◌ {A = ℕ} 0 1 = cc in omega arith) e h
+  an_address : {n : ℕ} → read_address f ≡ Some n → (is_address f ≡ true) × (n ≡ address_in f)
+  an_address h = passed (is_address f) (address_in f) h
 
--- the word's place among those listed, which is 0 where it is not
-module _ (words : List (List ℕ)) (f : List ℕ) {k : ℕ} (e : k ≡ listed words f) where
-  a_word : (k ≡ 0 → ⊥) → leb 1 (listed words f) ≡ true
-  a_word n = le-leb 1 (listed words f) (omega arith)
+  no_address : read_address f ≡ None → is_address f ≡ false
+  no_address h = failed (is_address f) (address_in f) h
 
-  no_word : k ≡ 0 → leb 1 (listed words f) ≡ false
-  no_word z = lt-leb 1 (listed words f) (omega arith)
+  module _ (words : List (List ℕ)) where
+    a_word : {n : ℕ} → found (listed words f) ≡ Some n → (leb 1 (listed words f) ≡ true) × (n ≡ listed words f)
+    unfolding found
+    a_word h = passed (leb 1 (listed words f)) (listed words f) h
 
-module _ (number kind address : List ℕ) {k : ℕ} (ek : k ≡ listed port_kinds kind) where
-  pub port_no_kind : k ≡ 0 → Unreadable ≡ said (as_port ([] ∷ number ∷ kind ∷ address ∷ []))
+    no_word : found (listed words f) ≡ None → leb 1 (listed words f) ≡ false
+    unfolding found
+    no_word h = failed (leb 1 (listed words f)) (listed words f) h
+
+module _ (number kind address : List ℕ) where
+  pub port_no_number : read_number number ≡ None → None ≡ said (as_port ([] ∷ number ∷ kind ∷ address ∷ []))
   unfolding as_port field said
-  port_no_kind z = by_test (is_number number) (λ t. simp (t, no_word port_kinds kind ek z)) (λ t. simp t)
+  port_no_number h = simp (no_number number h)
 
-  module _ (nk : k ≡ 0 → ⊥) {d : Digits} (ed : d ≡ read_number number) where
-    pub port_no_number : d ≡ NoNumber → Unreadable ≡ said (as_port ([] ∷ number ∷ kind ∷ address ∷ []))
+  module _ {n : ℕ} (en : read_number number ≡ Some n) where
+    pub port_no_kind : found (listed port_kinds kind) ≡ None → None ≡ said (as_port ([] ∷ number ∷ kind ∷ address ∷ []))
     unfolding as_port field said
-    port_no_number h = simp (no_number number ed h)
+    port_no_kind h = simp ((a_number number en).0, no_word kind port_kinds h)
 
-    module _ {n : ℕ} (hd : d ≡ Number n) {x : Hex} (ex : x ≡ read_address address) where
-      pub port_no_address : x ≡ NoAddress → Unreadable ≡ said (as_port ([] ∷ number ∷ kind ∷ address ∷ []))
+    module _ {k : ℕ} (ek : found (listed port_kinds kind) ≡ Some k) where
+      pub port_no_address : read_address address ≡ None → None ≡ said (as_port ([] ∷ number ∷ kind ∷ address ∷ []))
       unfolding as_port field said
-      port_no_address h = simp ((a_number number ed hd).0, a_word port_kinds kind ek nk, no_address address ex h)
+      port_no_address h = simp ((a_number number en).0, (a_word kind port_kinds ek).0, no_address address h)
 
-      pub port_read : {a : ℕ} → x ≡ Address a → OfPort n k a ≡ said (as_port ([] ∷ number ∷ kind ∷ address ∷ []))
+      pub port_read : {a : ℕ} → read_address address ≡ Some a
+          → Some (OfPort n k a) ≡ said (as_port ([] ∷ number ∷ kind ∷ address ∷ []))
       unfolding as_port field said
       port_read h =
-          let p : _ = a_number number ed hd in
-          let q : _ = an_address address ex h in
-          rw (p.1, q.1, ek) (simp (p.0, a_word port_kinds kind ek nk, q.0))
+          let p : _ = a_number number en in
+          let q : _ = a_word kind port_kinds ek in
+          let r : _ = an_address address h in
+          rw (p.1, q.1, r.1) (simp (p.0, q.0, r.0))
 
-module _ (flow kind level : List ℕ) {k : ℕ} (ek : k ≡ listed mp_kinds kind) where
-  pub mp_no_kind : k ≡ 0 → Unreadable ≡ said (as_mp ([] ∷ flow ∷ kind ∷ level ∷ []))
+module _ (flow kind level : List ℕ) where
+  pub mp_no_flow : read_number flow ≡ None → None ≡ said (as_mp ([] ∷ flow ∷ kind ∷ level ∷ []))
   unfolding as_mp field said
-  mp_no_kind z = by_test (is_number flow) (λ t. simp (t, no_word mp_kinds kind ek z)) (λ t. simp t)
+  mp_no_flow h = simp (no_number flow h)
 
-  module _ (nk : k ≡ 0 → ⊥) {d : Digits} (ed : d ≡ read_number flow) where
-    pub mp_no_flow : d ≡ NoNumber → Unreadable ≡ said (as_mp ([] ∷ flow ∷ kind ∷ level ∷ []))
+  module _ {n : ℕ} (en : read_number flow ≡ Some n) where
+    pub mp_no_kind : found (listed mp_kinds kind) ≡ None → None ≡ said (as_mp ([] ∷ flow ∷ kind ∷ level ∷ []))
     unfolding as_mp field said
-    mp_no_flow h = simp (no_number flow ed h)
+    mp_no_kind h = simp ((a_number flow en).0, no_word kind mp_kinds h)
 
-    module _ {n : ℕ} (hd : d ≡ Number n) {x : Digits} (ex : x ≡ read_number level) where
-      pub mp_no_level : x ≡ NoNumber → Unreadable ≡ said (as_mp ([] ∷ flow ∷ kind ∷ level ∷ []))
+    module _ {k : ℕ} (ek : found (listed mp_kinds kind) ≡ Some k) where
+      pub mp_no_level : read_number level ≡ None → None ≡ said (as_mp ([] ∷ flow ∷ kind ∷ level ∷ []))
       unfolding as_mp field said
-      mp_no_level h = simp ((a_number flow ed hd).0, a_word mp_kinds kind ek nk, no_number level ex h)
+      mp_no_level h = simp ((a_number flow en).0, (a_word kind mp_kinds ek).0, no_number level h)
 
-      pub mp_read : {v : ℕ} → x ≡ Number v → OfMp n k v ≡ said (as_mp ([] ∷ flow ∷ kind ∷ level ∷ []))
+      pub mp_read : {v : ℕ} → read_number level ≡ Some v → Some (OfMp n k v) ≡ said (as_mp ([] ∷ flow ∷ kind ∷ level ∷ []))
       unfolding as_mp field said
       mp_read h =
-          let p : _ = a_number flow ed hd in
-          let q : _ = a_number level ex h in
-          rw (p.1, q.1, ek) (simp (p.0, a_word mp_kinds kind ek nk, q.0))
+          let p : _ = a_number flow en in
+          let q : _ = a_word kind mp_kinds ek in
+          let r : _ = a_number level h in
+          rw (p.1, q.1, r.1) (simp (p.0, q.0, r.0))
 
-module _ (number port kind vid : List ℕ) {k : ℕ} (ek : k ≡ listed flow_kinds kind) where
-  pub flow_no_kind : k ≡ 0 → Unreadable ≡ said (as_flow ([] ∷ number ∷ port ∷ kind ∷ vid ∷ []))
+module _ (number port kind vid : List ℕ) where
+  pub flow_no_number : read_number number ≡ None → None ≡ said (as_flow ([] ∷ number ∷ port ∷ kind ∷ vid ∷ []))
   unfolding as_flow field said
-  flow_no_kind z =
-      by_test (is_number number)
-      (λ t. by_test (is_number port) (λ u. simp (t, u, no_word flow_kinds kind ek z)) (λ u. simp (t, u)))
-      (λ t. simp t)
+  flow_no_number h = simp (no_number number h)
 
-  module _ (nk : k ≡ 0 → ⊥) {d : Digits} (ed : d ≡ read_number number) where
-    pub flow_no_number : d ≡ NoNumber → Unreadable ≡ said (as_flow ([] ∷ number ∷ port ∷ kind ∷ vid ∷ []))
+  module _ {n : ℕ} (en : read_number number ≡ Some n) where
+    pub flow_no_port : read_number port ≡ None → None ≡ said (as_flow ([] ∷ number ∷ port ∷ kind ∷ vid ∷ []))
     unfolding as_flow field said
-    flow_no_number h = simp (no_number number ed h)
+    flow_no_port h = simp ((a_number number en).0, no_number port h)
 
-    module _ {n : ℕ} (hd : d ≡ Number n) {x : Digits} (ex : x ≡ read_number port) where
-      pub flow_no_port : x ≡ NoNumber → Unreadable ≡ said (as_flow ([] ∷ number ∷ port ∷ kind ∷ vid ∷ []))
+    module _ {p : ℕ} (ep : read_number port ≡ Some p) where
+      pub flow_no_kind : found (listed flow_kinds kind) ≡ None
+          → None ≡ said (as_flow ([] ∷ number ∷ port ∷ kind ∷ vid ∷ []))
       unfolding as_flow field said
-      flow_no_port h = simp ((a_number number ed hd).0, no_number port ex h)
+      flow_no_kind h = simp ((a_number number en).0, (a_number port ep).0, no_word kind flow_kinds h)
 
-      module _ {p : ℕ} (hx : x ≡ Number p) {y : Digits} (ey : y ≡ read_number vid) where
-        pub flow_no_vid : y ≡ NoNumber → Unreadable ≡ said (as_flow ([] ∷ number ∷ port ∷ kind ∷ vid ∷ []))
+      module _ {k : ℕ} (ek : found (listed flow_kinds kind) ≡ Some k) where
+        pub flow_no_vid : read_number vid ≡ None → None ≡ said (as_flow ([] ∷ number ∷ port ∷ kind ∷ vid ∷ []))
         unfolding as_flow field said
         flow_no_vid h =
-            simp ((a_number number ed hd).0, (a_number port ex hx).0, a_word flow_kinds kind ek nk, no_number vid ey h)
+            simp ((a_number number en).0, (a_number port ep).0, (a_word kind flow_kinds ek).0, no_number vid h)
 
-        pub flow_read : {v : ℕ} → y ≡ Number v
-            → OfFlow n p k v ≡ said (as_flow ([] ∷ number ∷ port ∷ kind ∷ vid ∷ []))
+        pub flow_read : {v : ℕ} → read_number vid ≡ Some v
+            → Some (OfFlow n p k v) ≡ said (as_flow ([] ∷ number ∷ port ∷ kind ∷ vid ∷ []))
         unfolding as_flow field said
         flow_read h =
-            let s : _ = a_number number ed hd in
-            let t : _ = a_number port ex hx in
-            let u : _ = a_number vid ey h in
-            rw (s.1, t.1, u.1, ek) (simp (s.0, t.0, a_word flow_kinds kind ek nk, u.0))
+            let s : _ = a_number number en in
+            let t : _ = a_number port ep in
+            let u : _ = a_word kind flow_kinds ek in
+            let w : _ = a_number vid h in
+            rw (s.1, t.1, u.1, w.1) (simp (s.0, t.0, u.0, w.0))

@@ -3,4 +3,5 @@ mod Numbers
 pub mod Parts
 pub mod Cuts
 pub mod ByFields
-mod Words
+pub mod Words
+pub mod Spelt

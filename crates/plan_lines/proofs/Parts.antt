@@ -2,28 +2,51 @@
 use mathlib.Core.Path.{◌≡◌, refl, sym, ◌∙◌}
 use mathlib.Core.List.{List, [], ◌∷◌}
 use Prim.Native.Nat.{ℕ, suc, ◌+◌, ◌-◌, ◌<◌, ◌≤◌}
-use native.Mathlib.Numerals.{add-one}
 use native.Mathlib.Omega.{arith}
-use lib.ListN.{length, get_or, take, drop, length-drop, drop_of_length-le}
-use lib.Seq.{drop-cons, drop-drop}
-use borrow.Author.Tests.{eq-eqb, ne_eqb}
-use Rattle.octets.proofs.Cases.{by_eq}
+use lib.ListN.{length, take, drop, length-drop}
+use lib.Seq.{take_all, drop-drop}
+use Rattle.std.specs.Prelude.{Some, None, ◌==◌}
+use Rattle.std.specs.List.{position_or_len}
+use Rattle.std.proofs.lemmas.List.Sums.{prefix_len-le-length}
+use Rattle.octets.proofs.Cases.{by_eq, by_lt}
 use Rattle.plan.specs.Line.{joined, parted}
-use Rattle.plan_lines.specs.CappedLine.{end_of}
+use Rattle.plan_lines.specs.CappedLine.{first_in, end_of}
 
--- the octet at i
-module _ (l : List ℕ) (by i : ℕ) (h : i < length l) where
-  pub end_here : get_or l i 0 ≡ by → i ≡ end_of by i (drop i l)
-  unfolding end_of
-  end_here e = simp (drop-cons l i 0 h, eq-eqb _ _ e)
+-- what stands behind a place, as a part
+pub behind : (n : ℕ) (l : List ℕ) → take (length l - n) (drop n l) ≡ drop n l
+behind n l = take_all (length l - n) (drop n l) (omega (arith, length-drop n l))
 
-  pub end_on : (get_or l i 0 ≡ by → ⊥) → end_of by (i + 1) (drop (i + 1) l) ≡ end_of by i (drop i l)
-  unfolding end_of
-  end_on n = rw (drop-cons l i 0 h, ne_eqb _ _ n, add-one)
-
-pub end_end : (l : List ℕ) (by i : ℕ) → length l ≤ i → i ≡ end_of by i (drop i l)
+-- where the octet stands first, as a place of the list
+placed : (by at : ℕ) (l : List ℕ) → end_of by at l ≡ at + position_or_len (λ x. x == by) l
 unfolding end_of
-end_end l by i h = simp (drop_of_length-le l h)
+placed by at [] = omega arith
+placed by at (x ∷ l) =
+    by_eq x by (λ e same. rw e (omega arith)) (λ e other. rw e (omega (arith, placed by (at + 1) l)))
+
+module _ (by : ℕ) (s : List ℕ) (from : ℕ) (h : from ≤ length s) where
+  place : ℕ
+  place = position_or_len (λ x. x == by) (drop from s)
+
+  pub end_found : {n : ℕ} → first_in by (drop from s) ≡ Some n
+      → (from + n ≡ end_of by from (drop from s)) × ((from ≤ from + n) × (from + n ≤ length s))
+  unfolding place first_in
+  end_found {n} e =
+      by_lt place (length (drop from s))
+      (λ t k.
+      let f : Some place ≡ Some n = rw t at e in
+      let g : place ≡ n = cc in
+      (omega (arith, placed by from (drop from s)), (omega arith, omega (arith, length-drop from s))))
+      (λ t k. let f : None ≡ Some n = rw t at e in let z : ◌≡◌ {A = ℕ} 0 1 = cc in absurd (omega arith))
+
+  pub end_none : first_in by (drop from s) ≡ None
+      → (length s ≡ end_of by from (drop from s)) × ((from ≤ length s) × (length s ≤ length s))
+  unfolding place first_in
+  end_none e =
+      by_lt place (length (drop from s))
+      (λ t k. let f : Some place ≡ None = rw t at e in let z : ◌≡◌ {A = ℕ} 0 1 = cc in absurd (omega arith))
+      (λ t k.
+      let most : place ≤ length (drop from s) = prefix_len-le-length _ (drop from s) in
+      (omega (arith, placed by from (drop from s), length-drop from s), (h, omega arith)))
 
 end_from : (by at : ℕ) (l : List ℕ) → at ≤ end_of by at l
 unfolding end_of

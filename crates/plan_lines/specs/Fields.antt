@@ -1,42 +1,25 @@
--- The plan (PLAN): the steps in which the code reads a line: one digit, digits, three fields.
-use Rattle.std.specs.Prelude.{◌≡◌, List, [], ◌∷◌, Bool, cond, ◌||◌, ℕ, ◌+◌, ◌-◌, ◌<◌, min, length, take, drop}
+-- The plan (PLAN): the steps in which the code reads a line: one digit, digits, a word among others.
+use Rattle.std.specs.Prelude.{List, Option, Some, None, Bool, cond, ◌||◌, ℕ, min, leb}
 use Rattle.octets.specs.Lists.{within, every}
 use Rattle.octets.specs.Text.{digit}
-use Rattle.plan.specs.Line.{Line, tab, parted, is_digit, spelled, as_port, as_flow, as_mp}
-use Rattle.plan_lines.specs.declared.fields.Amount.{Amount}
-use Rattle.plan_lines.specs.declared.fields.Amount.TheVariants.{NoAmount, Of}
-use Rattle.plan_lines.specs.declared.fields.Hex.{Hex}
-use Rattle.plan_lines.specs.declared.fields.Hex.TheVariants.{NoAddress, Address}
-use Rattle.plan_lines.specs.declared.lines.Cuts.{Cuts}
-use Rattle.plan_lines.specs.declared.lines.Cuts.TheVariants.{Three, Other}
-use Rattle.plan_lines.specs.declared.lines.Word.{Word}
-use Rattle.plan_lines.specs.declared.lines.Word.TheVariants.{Port, Flow, Mp}
+use Rattle.plan.specs.Line.{is_digit, spelled}
 
 -- PLAN-3, SHIFT-15: a hex digit in lower case.
 unfoldable pub is_hex : ℕ → Bool
 is_hex x = is_digit x || within 97 102 x
 
--- what an octet counts as a hexadecimal digit; 16 where it is none
-unfoldable pub value_of : ℕ → ℕ
-value_of x = cond (is_hex x) (digit x) 16
+-- what an octet counts as a hexadecimal digit; nothing if it is none
+unfoldable pub value_of : ℕ → Option ℕ
+value_of x = cond (is_hex x) (Some (digit x)) None
 
--- what octets spell after the digits that made `so`, or the most that is asked for
-unfoldable pub digits_on : ℕ → ℕ → List ℕ → Amount
-digits_on most so l = cond (every is_digit l) (Of (min (spelled 10 so l) most)) NoAmount
+-- what octets spell after the digits that made `so`, or the most that is asked for; nothing if one of them is no digit
+unfoldable pub digits_on : ℕ → ℕ → List ℕ → Option ℕ
+digits_on most so l = cond (every is_digit l) (Some (min (spelled 10 so l) most)) None
 
--- what octets spell after the digits that made `so`
-unfoldable pub hex_on : ℕ → List ℕ → Hex
-hex_on so l = cond (every is_hex l) (Address (spelled 16 so l)) NoAddress
+-- what octets spell after the digits that made `so`; nothing if one of them is no digit
+unfoldable pub hex_on : ℕ → List ℕ → Option ℕ
+hex_on so l = cond (every is_hex l) (Some (spelled 16 so l)) None
 
--- A line of a word by the field before its last three, which is the word or a flow's number, and by those three.
-unfoldable pub as_word : Word → List ℕ → List (List ℕ) → Line
-as_word Port before fields = as_port (before ∷ fields)
-as_word Flow before fields = as_flow ([] ∷ before ∷ fields)
-as_word Mp before fields = as_mp (before ∷ fields)
-
--- Three fields by the places of the two tabs between them, or any other count of fields.
-abbrev pub CutAs : List ℕ → Cuts → Type 0
-CutAs l (Three one two) =
-    (one < two) × (two < length l)
-    × (parted tab l ≡ take one l ∷ take (two - (one + 1)) (drop (one + 1) l) ∷ drop (two + 1) l ∷ [])
-CutAs l Other = length (parted tab l) ≡ 3 → ⊥
+-- a word's place among those listed, from 1; none for a word not listed, whose place is 0
+unfoldable pub found : ℕ → Option ℕ
+found place = cond (leb 1 place) (Some place) None

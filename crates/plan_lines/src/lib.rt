@@ -4,7 +4,7 @@
 mod fields;
 mod lines;
 
-pub use fields::{Amount, amount_of, end_of};
+pub use fields::{amount_of, end_of};
 pub use lines::line_of;
 
 // What parts the fields of a line, and what ends a line.
@@ -15,7 +15,6 @@ pub const LF: u8 = 10;
 // One line of a plan's text. A number above 9,999 is read as 9,999, which is out of range wherever it stands.
 #[derive(Clone, Copy)]
 pub enum Said {
-    Unreadable,
     OfPort(u32, u8, u64),
     OfFlow(u32, u32, u8, u32),
     OfMp(u32, u8, u32),

@@ -1,158 +1,107 @@
 // One line of a plan's text.
-ghost use Rattle.std.specs.Prelude.{◌≡◌, [], ◌∷◌};
+#![tactic(auto, using(crate::proofs::Spelt::reads_same, crate::proofs::Words::port_word, crate::proofs::Words::flow_word, crate::proofs::Words::mp_word), unfolding(octets::specs::Text::text, plan::specs::Line::by_word, plan::specs::Line::field, crate::specs::CappedLine::said))]
+
+ghost use Rattle.std.specs.Prelude.{◌≡◌, [], ◌∷◌, length, MatchOption};
 ghost use Rattle.plan.specs.Line.{tab, parted, as_port, as_flow, as_mp, by_word, line_of};
 ghost use Rattle.plan_lines.specs.CappedLine.{said};
-ghost use Rattle.plan_lines.specs.Fields.{as_word, CutAs};
 
-use crate::fields::{Digits, Hex, address_of, end_of, flow_kind, mp_kind, number_of, port_kind};
+use crate::fields::{address_of, end_of, flow_kind, mp_kind, number_of, port_kind};
 use crate::{Said, TAB};
-use octets::same_octets;
 
-// The places of the two tabs between three fields, or any other count of fields.
-#[derive(Clone, Copy)]
-enum Cuts {
-    Three(usize, usize),
-    Other,
-}
-
-// What a line speaks of, by its word.
-#[derive(Clone, Copy)]
-enum Word {
-    Port,
-    Flow,
-    Mp,
-}
-
-fn cuts_of(s: &[u8]) -> Cuts
-    ensures { CutAs s.now result }
+// Three fields; none where there are more or fewer.
+fn three_of(s: &[u8]) -> Option<(&[u8], &[u8], &[u8])>
+    ensures { MatchOption result (length (parted tab s.now) ≡ 3 → ⊥) (λ p.
+        parted tab s.now ≡ p.0.now ∷ p.1.now ∷ p.2.now ∷ []) }
 {
     let one = end_of(s, 0, TAB);
     if one == s.len() {
-        return Cuts::Other;
+        return None;
     }
     let two = end_of(s, one + 1, TAB);
     if two == s.len() {
-        return Cuts::Other;
+        return None;
     }
-    if end_of(s, two + 1, TAB) == s.len() {
-        return Cuts::Three(one, two);
+    if end_of(s, two + 1, TAB) != s.len() {
+        return None;
     }
-    Cuts::Other
+    Some((&s[0..one], &s[one + 1..two], &s[two + 1..]))
 }
 
 // A line of each kind, by its fields behind the word. The word itself plays no part: [] stands for it.
-fn port_line(number: &[u8], kind: &[u8], address: &[u8]) -> Said
+fn port_line(number: &[u8], kind: &[u8], address: &[u8]) -> Option<Said>
     ensures { result ≡ said (as_port ([] ∷ number.now ∷ kind.now ∷ address.now ∷ [])) }
 {
-    let k = port_kind(kind);
-    if k == 0 {
-        return Said::Unreadable;
-    }
-    match number_of(number) {
-        Digits::NoNumber => Said::Unreadable,
-        Digits::Number(n) => match address_of(address) {
-            Hex::NoAddress => Said::Unreadable,
-            Hex::Address(a) => Said::OfPort(n, k, a),
-        },
-    }
+    let number = number_of(number)?;
+    let kind = port_kind(kind)?;
+    let address = address_of(address)?;
+    Some(Said::OfPort(number, kind, address))
 }
 
-fn flow_line(number: &[u8], port: &[u8], kind: &[u8], vid: &[u8]) -> Said
+fn flow_line(number: &[u8], port: &[u8], kind: &[u8], vid: &[u8]) -> Option<Said>
     ensures { result
         ≡ said (as_flow ([] ∷ number.now ∷ port.now ∷ kind.now ∷ vid.now ∷ [])) }
 {
-    let k = flow_kind(kind);
-    if k == 0 {
-        return Said::Unreadable;
-    }
-    match number_of(number) {
-        Digits::NoNumber => Said::Unreadable,
-        Digits::Number(n) => match number_of(port) {
-            Digits::NoNumber => Said::Unreadable,
-            Digits::Number(p) => match number_of(vid) {
-                Digits::NoNumber => Said::Unreadable,
-                Digits::Number(v) => Said::OfFlow(n, p, k, v),
-            },
-        },
-    }
+    let number = number_of(number)?;
+    let port = number_of(port)?;
+    let kind = flow_kind(kind)?;
+    let vid = number_of(vid)?;
+    Some(Said::OfFlow(number, port, kind, vid))
 }
 
-fn mp_line(flow: &[u8], kind: &[u8], level: &[u8]) -> Said
+fn mp_line(flow: &[u8], kind: &[u8], level: &[u8]) -> Option<Said>
     ensures { result ≡ said (as_mp ([] ∷ flow.now ∷ kind.now ∷ level.now ∷ [])) }
 {
-    let k = mp_kind(kind);
-    if k == 0 {
-        return Said::Unreadable;
-    }
-    match number_of(flow) {
-        Digits::NoNumber => Said::Unreadable,
-        Digits::Number(n) => match number_of(level) {
-            Digits::NoNumber => Said::Unreadable,
-            Digits::Number(v) => Said::OfMp(n, k, v),
-        },
-    }
+    let flow = number_of(flow)?;
+    let kind = mp_kind(kind)?;
+    let level = number_of(level)?;
+    Some(Said::OfMp(flow, kind, level))
 }
 
-// A line by its word, its last three fields, and the one before them, which is the word or a flow's number.
-fn by_fields(word: Word, before: &[u8], one: &[u8], two: &[u8], three: &[u8]) -> Said
-    ensures { result
-        ≡ said (as_word word before.now (one.now ∷ two.now ∷ three.now ∷ [])) }
+// The same, by what stands behind the first tab.
+fn port_of(rest: &[u8]) -> Option<Said>
+    ensures { result ≡ said (as_port ([] ∷ parted tab rest.now)) }
 {
-    match word {
-        Word::Port => port_line(one, two, three),
-        Word::Flow => flow_line(before, one, two, three),
-        Word::Mp => mp_line(one, two, three),
-    }
+    let (number, kind, address) = three_of(rest)?;
+    port_line(number, kind, address)
 }
 
-// The same, by what stands behind the tab after the one before them.
-fn behind(word: Word, before: &[u8], rest: &[u8]) -> Said
-    ensures { result ≡ said (as_word word before.now (parted tab rest.now)) }
-{
-    match cuts_of(rest) {
-        Cuts::Three(one, two) => by_fields(
-            word,
-            before,
-            &rest[0..one],
-            &rest[one + 1..two],
-            &rest[two + 1..],
-        ),
-        Cuts::Other => Said::Unreadable,
-    }
-}
-
-fn flow_of(rest: &[u8]) -> Said
+fn flow_of(rest: &[u8]) -> Option<Said>
     ensures { result ≡ said (as_flow ([] ∷ parted tab rest.now)) }
 {
     let end = end_of(rest, 0, TAB);
     if end == rest.len() {
-        return Said::Unreadable;
+        return None;
     }
-    behind(Word::Flow, &rest[0..end], &rest[end + 1..])
+    let (port, kind, vid) = three_of(&rest[end + 1..])?;
+    flow_line(&rest[0..end], port, kind, vid)
+}
+
+fn mp_of(rest: &[u8]) -> Option<Said>
+    ensures { result ≡ said (as_mp ([] ∷ parted tab rest.now)) }
+{
+    let (flow, kind, level) = three_of(rest)?;
+    mp_line(flow, kind, level)
 }
 
 // A line by its word and what stands behind the first tab.
-fn worded(word: &[u8], rest: &[u8]) -> Said
+fn worded(word: &[u8], rest: &[u8]) -> Option<Said>
     ensures { result ≡ said (by_word (word.now ∷ parted tab rest.now)) }
 {
-    if same_octets(word, b"port") {
-        return behind(Word::Port, word, rest);
+    match word {
+        b"port" => port_of(rest),
+        b"flow" => flow_of(rest),
+        b"mp" => mp_of(rest),
+        _ => None,
     }
-    if same_octets(word, b"flow") {
-        return flow_of(rest);
-    }
-    if same_octets(word, b"mp") {
-        return behind(Word::Mp, word, rest);
-    }
-    Said::Unreadable
 }
 
-pub fn line_of(line: &[u8]) -> Said
+// None for a line that is no record.
+pub fn line_of(line: &[u8]) -> Option<Said>
     ensures { result ≡ said (line_of line.now) }
 {
     let end = end_of(line, 0, TAB);
     if end == line.len() {
-        return Said::Unreadable;
+        return None;
     }
     worded(&line[0..end], &line[end + 1..])
 }

@@ -14,6 +14,9 @@ use Rattle.plan.specs.Line.{Line, unreadable, port_line, flow_line, mp_line}
 use Rattle.plan.specs.PlanText.{port_reason, flow_reason, mp_reason, reason_of, added}
 use Rattle.plan.proofs.Faultless.{port_cleared, flow_cleared, mp_cleared}
 use Rattle.plan_lines.specs.CappedLine.{capped, said}
+use Rattle.plan_lines.specs.declared.Said.{Said}
+use Rattle.plan_lines.specs.declared.Said.TheVariants.{OfPort, OfFlow, OfMp}
+use Rattle.std.specs.Prelude.{None, Some}
 use Rattle.plan_reader.specs.ReadPlan.{said_reason, said_added}
 use Rattle.plan_reader.proofs.ReasonLaws.{vid_high}
 
@@ -122,28 +125,45 @@ module _ (plan : Plan) where
       go true e = rw (in_range 0 7 level (omega arith) e)
       go false e = two (capped level) (out_range 0 7 level (omega arith) e) ∙ sym (two level e)
 
-  pub said_reason_lem : (line : Line) → said_reason plan (said line) ≡ reason_of plan line
-  unfolding said said_reason reason_of
-  said_reason_lem unreadable = refl
-  said_reason_lem (port_line number kind address) = port_capped number address
-  said_reason_lem (flow_line number port kind vid) =
-      number_capped number (capped port) kind (capped vid) ∙ port_number_capped number port kind (capped vid)
-      ∙ vid_capped number port kind vid
-  said_reason_lem (mp_line flow kind level) = mp_flow_capped flow (capped level) ∙ mp_level_capped flow level
+  pub unsaid : (line : Line) → None ≡ said line → reason_of plan line ≡ 1
+  unfolding said reason_of
+  unsaid unreadable e = refl
+  unsaid (port_line number kind address) e = cc
+  unsaid (flow_line number port kind vid) e = cc
+  unsaid (mp_line flow kind level) e = cc
 
-  pub said_added_lem : (line : Line) → reason_of plan line ≡ 0 → said_added (said line) plan ≡ added line plan
+  pub said_reason_lem : (line : Line) {s : Said} → Some s ≡ said line → said_reason plan s ≡ reason_of plan line
+  unfolding said said_reason reason_of
+  said_reason_lem unreadable e = cc
+  said_reason_lem (port_line number kind address) {s} e =
+      let k : s ≡ OfPort (capped number) kind address = cc in
+      rw k (port_capped number address)
+  said_reason_lem (flow_line number port kind vid) {s} e =
+      let k : s ≡ OfFlow (capped number) (capped port) kind (capped vid) = cc in
+      rw k
+      (number_capped number (capped port) kind (capped vid) ∙ port_number_capped number port kind (capped vid)
+      ∙ vid_capped number port kind vid)
+  said_reason_lem (mp_line flow kind level) {s} e =
+      let k : s ≡ OfMp (capped flow) kind (capped level) = cc in
+      rw k (mp_flow_capped flow (capped level) ∙ mp_level_capped flow level)
+
+  pub said_added_lem : (line : Line) {s : Said} → Some s ≡ said line → reason_of plan line ≡ 0 → said_added s plan ≡ added line plan
   unfolding said said_added reason_of added
-  said_added_lem unreadable e = refl
-  said_added_lem (port_line number kind address) e =
-      rw (in_range 1 8 number (omega arith) (port_cleared plan number address e).number_fits)
-  said_added_lem (flow_line number port kind vid) e =
+  said_added_lem unreadable h e = cc
+  said_added_lem (port_line number kind address) {s} h e =
+      let k : s ≡ OfPort (capped number) kind address = cc in
+      rw (k, in_range 1 8 number (omega arith) (port_cleared plan number address e).number_fits)
+  said_added_lem (flow_line number port kind vid) {s} h e =
+      let k : s ≡ OfFlow (capped number) (capped port) kind (capped vid) = cc in
       let f : _ = flow_cleared plan number port kind vid e in
-      let k : vid ≤ 4094 = vid_high kind vid f.vid_fits in
+      let v : vid ≤ 4094 = vid_high kind vid f.vid_fits in
       rw (
+        k,
         in_range 1 32 number (omega arith) f.number_fits,
         in_range 1 8 port (omega arith) f.port_fits,
         capped_low vid (omega arith),
       )
-  said_added_lem (mp_line flow kind level) e =
+  said_added_lem (mp_line flow kind level) {s} h e =
+      let k : s ≡ OfMp (capped flow) kind (capped level) = cc in
       let f : _ = mp_cleared plan flow level e in
-      rw (in_range 1 32 flow (omega arith) f.flow_fits, in_range 0 7 level (omega arith) f.level_fits)
+      rw (k, in_range 1 32 flow (omega arith) f.flow_fits, in_range 0 7 level (omega arith) f.level_fits)

@@ -1,5 +1,6 @@
 mod CapLaws
 mod ReasonLaws
+mod ReasonRange
 mod AddLaws
 mod ReadLaws
 pub mod ReadBack

@@ -8,7 +8,6 @@ use native.Mathlib.Omega.{arith}
 use lib.Dec.{eqb}
 use lib.ListN.{length, take, drop, length-drop, drop_of_length-le}
 use borrow.Author.Tests.{ne_eqb}
-use Rattle.plan_lines.specs.declared.Said.{Said}
 use Rattle.plan.specs.declared.Records.{Records}
 use Rattle.plan.specs.Plan.{Plan, so_far}
 use Rattle.plan.specs.Line.{lf, parted, line_of}
@@ -17,10 +16,12 @@ use Rattle.plan.specs.Records.{plan_of, by_value}
 use Rattle.plan.proofs.FairLines.{line_fair}
 use Rattle.plan.proofs.ReadKeeps.{added_keeps, none_so_far}
 use Rattle.plan.proofs.ByValue.{value_back}
-use Rattle.plan_lines.specs.CappedLine.{end_of, said}
-use Rattle.plan_reader.specs.ReadPlan.{said_reason, said_added}
+use Rattle.plan_lines.specs.CappedLine.{end_of}
+use Rattle.plan_reader.specs.ReadPlan.{judged, read_as}
+use Rattle.plan_reader.specs.declared.fault.Reason.{Reason}
+use Rattle.std.specs.Prelude.{Ok, Err}
 use Rattle.plan_lines.proofs.Parts.{last_field, next_field, some_part}
-use Rattle.plan_reader.proofs.CapLaws.{said_reason_lem, said_added_lem}
+use Rattle.plan_reader.proofs.ReasonLaws.{judged_good, judged_bad}
 
 line_read : (n : ℕ) (plan : Plan) (line : List ℕ) (parts : List (List ℕ)) → 1 ≤ length parts
     → read_lines n plan (line ∷ parts)
@@ -79,33 +80,29 @@ module _ (text : List ℕ) (at e n : ℕ) (records : Records) (w : ReadTo text r
         ∙ ap (read_lines n plan) (sym (next_field lf at e text k low h))
         ∙ w.goes_on
 
-    module _ {s : Said} {r : ℕ} (es : s ≡ said (line_of line)) (er : r ≡ said_reason plan s) where
-      judged : r ≡ reason_of plan (line_of line)
-      judged = er ∙ ap (said_reason plan) es ∙ said_reason_lem plan (line_of line)
+    pub line_faulty : {e : Reason} → Err e ≡ judged (reason_of plan (line_of line))
+        → Err (record { line = n; reason = e }) ≡ read_as X
+    unfolding read_as
+    line_faulty {e} j =
+        let b : _ = judged_bad (reason_of plan (line_of line)) j in
+        let t : fault n (reason_of plan (line_of line)) ≡ X = rw (ne_eqb (reason_of plan (line_of line)) 0 b.0) at turn in
+        rw b.1 (ap read_as t)
 
-      pub line_faulty : (r ≡ 0 → ⊥) → fault n r ≡ X
-      line_faulty z =
-          let f : reason_of plan (line_of line) ≡ 0 → ⊥ = λ y. z (judged ∙ y) in
-          ap (fault n) judged ∙ (rw (ne_eqb (reason_of plan (line_of line)) 0 f) at turn)
+    module _ {next : Records} (j : Ok tt ≡ judged (reason_of plan (line_of line)))
+        (en : next ≡ by_value (added (line_of line) plan)) where
+      none : reason_of plan (line_of line) ≡ 0
+      none = judged_good (reason_of plan (line_of line)) j
 
-      module _ {next : Records} (good : r ≡ 0) (en : next ≡ by_value (said_added s plan)) where
-        none : reason_of plan (line_of line) ≡ 0
-        none = sym judged ∙ good
+      grown_keeps : so_far (added (line_of line) plan) ≡ true
+      grown_keeps = added_keeps plan (line_of line) w.keeps (line_fair line) none
 
-        grown : said_added s plan ≡ added (line_of line) plan
-        grown = ap (λ x. said_added x plan) es ∙ said_added_lem plan (line_of line) none
+      held : plan_of next ≡ added (line_of line) plan
+      held = ap plan_of en ∙ value_back (added (line_of line) plan) grown_keeps
 
-        grown_keeps : so_far (said_added s plan) ≡ true
-        grown_keeps = ap so_far grown ∙ added_keeps plan (line_of line) w.keeps (line_fair line) none
-
-        held : plan_of next ≡ said_added s plan
-        held = ap plan_of en ∙ value_back (said_added s plan) grown_keeps
-
-        pub line_good : ReadTo text next (n + 1) (e + 1)
-        line_good =
-            record {
-              value = en ∙ ap by_value (sym held);
-              keeps = ap so_far held ∙ grown_keeps;
-              goes_on =
-                  ap (λ p. read_lines (n + 1) p (parted lf (drop (e + 1) text))) (held ∙ grown) ∙ (rw none at turn);
-            }
+      pub line_good : ReadTo text next (n + 1) (e + 1)
+      line_good =
+          record {
+            value = en ∙ ap by_value (sym held);
+            keeps = ap so_far held ∙ grown_keeps;
+            goes_on = ap (λ p. read_lines (n + 1) p (parted lf (drop (e + 1) text))) held ∙ (rw none at turn);
+          }

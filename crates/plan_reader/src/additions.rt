@@ -11,65 +11,46 @@ use plan_lines::Said;
 use plan_records::{flow_put, mps_put, port_put};
 
 #[inline(never)]
-fn with_port(r: Records, number: u32, kind: u8, address: u64) -> Records
-    requires { (r ≡ by_value (plan_of r)) × (so_far (plan_of r) ≡ true) × (port_reason (plan_of r) number address ≡ 0) }
-    ensures { result ≡ by_value (added (port_line number kind address) (plan_of r)) }
+fn with_port(r: &mut Records, number: u32, kind: u8, address: u64)
+    requires { (r.old ≡ by_value (plan_of r.old)) × (so_far (plan_of r.old) ≡ true) × (port_reason (plan_of r.old) number address ≡ 0) }
+    ensures { r.new ≡ by_value (added (port_line number kind address) (plan_of r.old)) }
 {
-    let ports = r.ports;
     let port = Port {
         number: number as u8,
-        kind: kind,
-        address: address,
+        kind,
+        address,
     };
-    let rows = port_put(ports, port);
-    let flows = r.flows;
-    Records {
-        ports: rows,
-        flows: flows,
-    }
+    port_put(&mut r.ports, port);
 }
 
 #[inline(never)]
-fn with_flow(r: Records, number: u32, port: u32, kind: u8, vid: u32) -> Records
-    requires { (r ≡ by_value (plan_of r)) × (so_far (plan_of r) ≡ true) × (flow_reason (plan_of r) number port kind vid ≡ 0) }
-    ensures { result ≡ by_value (added (flow_line number port kind vid) (plan_of r)) }
+fn with_flow(r: &mut Records, number: u32, port: u32, kind: u8, vid: u32)
+    requires { (r.old ≡ by_value (plan_of r.old)) × (so_far (plan_of r.old) ≡ true) × (flow_reason (plan_of r.old) number port kind vid ≡ 0) }
+    ensures { r.new ≡ by_value (added (flow_line number port kind vid) (plan_of r.old)) }
 {
-    let flows = r.flows;
     let flow = Flow {
         number: number as u8,
         port: port as u8,
-        kind: kind,
+        kind,
         vid: vid as u16,
         mps: [0; LEVELS],
     };
-    let rows = flow_put(flows, flow);
-    let ports = r.ports;
-    Records {
-        ports: ports,
-        flows: rows,
-    }
+    flow_put(&mut r.flows, flow);
 }
 
 #[inline(never)]
-fn with_mp(r: Records, flow: u32, kind: u8, level: u32) -> Records
-    requires { (r ≡ by_value (plan_of r)) × (mp_reason (plan_of r) flow level ≡ 0) }
-    ensures { result ≡ by_value (added (mp_line flow kind level) (plan_of r)) }
+fn with_mp(r: &mut Records, flow: u32, kind: u8, level: u32)
+    requires { (r.old ≡ by_value (plan_of r.old)) × (mp_reason (plan_of r.old) flow level ≡ 0) }
+    ensures { r.new ≡ by_value (added (mp_line flow kind level) (plan_of r.old)) }
 {
-    let flows = r.flows;
-    let rows = mps_put(flows, flow, kind, level);
-    let ports = r.ports;
-    Records {
-        ports: ports,
-        flows: rows,
-    }
+    mps_put(&mut r.flows, flow, kind, level);
 }
 
-pub fn with_line(r: Records, line: Said) -> Records
-    requires { (r ≡ by_value (plan_of r)) × (so_far (plan_of r) ≡ true) × (said_reason (plan_of r) line ≡ 0) }
-    ensures { result ≡ by_value (said_added line (plan_of r)) }
+pub fn with_line(r: &mut Records, line: Said)
+    requires { (r.old ≡ by_value (plan_of r.old)) × (so_far (plan_of r.old) ≡ true) × (said_reason (plan_of r.old) line ≡ 0) }
+    ensures { r.new ≡ by_value (said_added line (plan_of r.old)) }
 {
     match line {
-        Said::Unreadable => r,
         Said::OfPort(number, kind, address) => with_port(r, number, kind, address),
         Said::OfFlow(number, port, kind, vid) => with_flow(r, number, port, kind, vid),
         Said::OfMp(flow, kind, level) => with_mp(r, flow, kind, level),

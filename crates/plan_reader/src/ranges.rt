@@ -1,4 +1,6 @@
 // What is in range: numbers, addresses, VIDs, kinds.
+#![tactic(auto, unfolding(octets::specs::Lists::within, plan::specs::Plan::good_vid, plan::specs::Plan::good_kind))]
+
 ghost use Rattle.std.specs.Prelude.{◌≡◌, not, ◌||◌};
 ghost use Rattle.octets.specs.Lists.{within};
 ghost use Rattle.plan.specs.Plan.{good_address, good_vid, good_kind};
@@ -6,69 +8,47 @@ ghost use Rattle.plan.specs.Plan.{good_address, good_vid, good_kind};
 use codec::{C_TAGGED, ENNI, S_TAGGED, UNI, UNTAGGED};
 use plan::{HIGHEST_FLOW, HIGHEST_LEVEL, HIGHEST_PORT, HIGHEST_VID, good_address};
 
-fn in_range(low: u32, high: u32, x: u32) -> bool
-    ensures { result ≡ within low high x }
-{
-    if x < low {
-        return false;
-    }
-    x <= high
-}
-
 fn good_vid(kind: u8, vid: u32) -> bool
     ensures { result ≡ good_vid kind vid }
 {
     if kind == UNTAGGED {
-        return vid == 0;
+        vid == 0
+    } else {
+        (1..=HIGHEST_VID).contains(&vid)
     }
-    in_range(1, HIGHEST_VID, vid)
 }
 
 // Can a port of this kind have flows of that kind?
 pub fn good_kind(kind: u8, port: u8) -> bool
     ensures { result ≡ good_kind kind port }
 {
-    if kind == UNTAGGED {
-        return true;
+    match kind {
+        UNTAGGED => true,
+        C_TAGGED => port == UNI,
+        S_TAGGED => port == ENNI,
+        _ => false,
     }
-    if kind == C_TAGGED {
-        return port == UNI;
-    }
-    if kind == S_TAGGED {
-        return port == ENNI;
-    }
-    false
 }
 
 // Is a port out of range?
 pub fn port_out(number: u32, address: u64) -> bool
     ensures { result ≡ (not (within 1 8 number) || not (good_address address)) }
 {
-    if !in_range(1, HIGHEST_PORT, number) {
-        return true;
-    }
-    !good_address(address)
+    !(1..=HIGHEST_PORT).contains(&number) || !good_address(address)
 }
 
 // Is a flow?
 pub fn flow_out(number: u32, port: u32, kind: u8, vid: u32) -> bool
     ensures { result ≡ (not (within 1 32 number) || not (within 1 8 port) || not (good_vid kind vid)) }
 {
-    if !in_range(1, HIGHEST_FLOW, number) {
-        return true;
-    }
-    if !in_range(1, HIGHEST_PORT, port) {
-        return true;
-    }
-    !good_vid(kind, vid)
+    !(1..=HIGHEST_FLOW).contains(&number)
+        || !(1..=HIGHEST_PORT).contains(&port)
+        || !good_vid(kind, vid)
 }
 
 // Is an MP?
 pub fn mp_out(flow: u32, level: u32) -> bool
     ensures { result ≡ (not (within 1 32 flow) || not (within 0 7 level)) }
 {
-    if !in_range(1, HIGHEST_FLOW, flow) {
-        return true;
-    }
-    !in_range(0, HIGHEST_LEVEL, level)
+    !(1..=HIGHEST_FLOW).contains(&flow) || HIGHEST_LEVEL < level
 }

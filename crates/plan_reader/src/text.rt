@@ -1,12 +1,14 @@
 // A plan's text, read line by line.
-ghost use Rattle.std.specs.Prelude.{◌≡◌};
-ghost use Rattle.plan.specs.PlanText.{fault, finished, empty_plan, plan_in};
+ghost use Rattle.std.specs.Prelude.{◌≡◌, true, Ok, Err, IfOk};
+ghost use Rattle.plan.specs.Plan.{so_far};
+ghost use Rattle.plan.specs.Line.{line_of};
+ghost use Rattle.plan.specs.PlanText.{reason_of, added, empty_plan, plan_in};
 ghost use Rattle.plan.specs.Records.{plan_of, by_value};
-ghost use Rattle.plan_reader.specs.ReadPlan.{read_as};
+ghost use Rattle.plan_reader.specs.ReadPlan.{judged, read_as};
 
 use crate::additions::with_line;
+use crate::fault::{Fault, Reason};
 use crate::reasons::reason_of;
-use crate::{NO_FAULT, NO_PORT, ReadPlan, TOO_LONG, UNREADABLE};
 use plan::{FLOWS, LONGEST_TEXT, PORTS, Records};
 use plan_lines::{LF, end_of, line_of};
 use plan_records::{no_flow, no_port, none_held};
@@ -14,65 +16,51 @@ use plan_records::{no_flow, no_port, none_held};
 fn no_records() -> Records
     ensures { result ≡ by_value empty_plan }
 {
-    let p = no_port();
-    let f = no_flow();
     Records {
-        ports: [p; PORTS],
-        flows: [f; FLOWS],
+        ports: [no_port(); PORTS],
+        flows: [no_flow(); FLOWS],
     }
 }
 
+// The record of a line added to those held, or the reason why not.
 #[inline(never)]
-fn faulty(line: u32, reason: u8) -> ReadPlan
-    ensures { result ≡ read_as (fault line reason) }
+fn read_line(r: &mut Records, line: &[u8]) -> Result<(), Reason>
+    requires { (r.old ≡ by_value (plan_of r.old)) × (so_far (plan_of r.old) ≡ true) }
+    ensures reason { result ≡ judged (reason_of (plan_of r.old) (line_of line.now)) }
+    ensures records { IfOk result (λ _. r.new ≡ by_value (added (line_of line.now) (plan_of r.old))) }
 {
-    let records = no_records();
-    ReadPlan {
-        line: line,
-        reason: reason,
-        records: records,
-    }
+    let Some(said) = line_of(line) else {
+        return Err(Reason::Unreadable);
+    };
+    reason_of(r, said)?;
+    with_line(r, said);
+    Ok(())
 }
 
 #[inline(never)]
-fn ended(records: Records) -> ReadPlan
-    requires { records ≡ by_value (plan_of records) }
-    ensures { result ≡ read_as (finished (plan_of records)) }
-{
-    let ports = records.ports;
-    if none_held(ports) {
-        return faulty(0, NO_PORT);
-    }
-    ReadPlan {
-        line: 0,
-        reason: NO_FAULT,
-        records: records,
-    }
-}
-
-#[inline(never)]
-pub fn read_plan(text: &[u8]) -> ReadPlan
+pub fn read_plan(text: &[u8]) -> Result<Records, Fault>
     ensures { result ≡ read_as (plan_in text.now) }
 {
     if LONGEST_TEXT < text.len() {
-        return faulty(0, TOO_LONG);
+        return Err(Reason::TooLong.at(0));
     }
     let mut records = no_records();
     let mut n: u32 = 1;
     let mut at: usize = 0;
+    // Stays a `while`: only where a line ends is it known where the next one begins.
     while at < text.len() {
         let end = end_of(text, at, LF);
         if end == text.len() {
-            return faulty(n, UNREADABLE);
+            return Err(Reason::Unreadable.at(n));
         }
-        let line = line_of(&text[at..end]);
-        let reason = reason_of(records, line);
-        if reason != NO_FAULT {
-            return faulty(n, reason);
+        if let Err(reason) = read_line(&mut records, &text[at..end]) {
+            return Err(reason.at(n));
         }
-        records = with_line(records, line);
         n += 1;
         at = end + 1;
     }
-    ended(records)
+    if none_held(&records.ports) {
+        return Err(Reason::NoPort.at(0));
+    }
+    Ok(records)
 }

@@ -1,7 +1,8 @@
-// A plan's records by value, in arrays: what they hold, and a record put in its place.
+// A plan's records by value, in rows: what they hold, and a record put in its place.
 #![tactic(auto)]
 
 mod records;
+mod row;
 mod rows;
 
 pub use records::{

@@ -1,6 +1,6 @@
 -- Rows that are counted: what a turn of the loop does, over how many there may be, their width, the reader and the test.
 use mathlib.Core.Path.{◌≡◌, sym, ◌∙◌}
-use mathlib.Core.Bool.{Bool, cond}
+use mathlib.Core.Bool.{Bool, true, false, cond}
 use mathlib.Core.List.{List}
 use Prim.Native.Nat.{ℕ, suc, ◌+◌, ◌-◌, ◌*◌, ◌<◌, ◌≤◌}
 use native.Mathlib.Nat.{add-zero, zero-add, zero-mul, add_assoc, sub-zero}
@@ -8,10 +8,16 @@ use native.Mathlib.Omega.{arith}
 use lib.ListN.{drop}
 use lib.Seq.{drop-drop}
 use borrow.Author.Tests.{eq-eqb, ne_eqb}
+use Rattle.std.specs.Int.{from_bool}
 use Rattle.octets.specs.Octets.{low_number}
 use Rattle.octets.specs.Lists.{count}
 use Rattle.state.specs.Image.{rows_in}
 use Rattle.state.proofs.FindLaws.{next_row}
+
+-- what an answer counts
+pub counts : (b : Bool) {m : ℕ} → m ≡ from_bool b → (m ≡ cond b 1 0) × (m ≤ 1)
+counts true e = (e, omega arith)
+counts false e = (e, omega arith)
 
 -- before row i, n and the rows that are left to count make the whole
 module _ {A : Type 0} (limit width : ℕ) (read : List ℕ → A) (passes : A → Bool) (start : ℕ) (b : List ℕ) where

@@ -1,19 +1,21 @@
 -- A row that is found lies in its table, and that of a session has its key.
-use mathlib.Core.Path.{◌≡◌}
+use mathlib.Core.Path.{◌≡◌, refl}
 use mathlib.Core.Bool.{Bool, true, false, cond, not}
 use mathlib.Core.List.{List}
 use Prim.Native.Nat.{ℕ, ◌+◌, ◌≤◌}
 use native.Mathlib.Omega.{arith}
 use lib.Dec.{eqb}
-use lib.ListN.{get_or, drop}
+use lib.ListN.{length, get_or, drop}
 use borrow.Author.Tests.{eqb-true}
+use Rattle.std.specs.Prelude.{Option, IfSome}
 use Rattle.octets.specs.Octets.{low_number}
 use Rattle.octets.specs.Lists.{within}
 use Rattle.octets.proofs.Cases.{by_le}
 use Rattle.codec.specs.declared.FrameSet.{FrameSet}
 use Rattle.plan.specs.Plan.{set_key}
-use Rattle.state.specs.Rows.{port_at, flow_at, session_at, owed_at, row_at_place, numbered_at}
+use Rattle.state.specs.Rows.{row_found, port_at, flow_at, session_at, owed_at, row_at_place, numbered_at}
 use Rattle.state.proofs.FoundLaws.{found_passes, found_fits}
+use Rattle.state.proofs.RowFound.{if_found}
 
 module _ (b : List ℕ) {r : ℕ} where
   pub port_fits_lem : (number : ℕ) → r ≡ port_at number b → r + 16 ≤ 256
@@ -52,3 +54,11 @@ numbered_fits b flow e = rw e (go (within 1 32 flow))
     go : (t : Bool) → cond t (row_at_place (get_or b (63 + flow) 0)) 0 + 32 ≤ 1280
     go true = place_fits_lem (get_or b (63 + flow) 0)
     go false = omega arith
+
+-- The row that the code finds, if there is one, lies in the octets.
+module _ (b : List ℕ) (long : length b ≡ 4096) {row : Option ℕ} where
+  pub flow_inside : (port : ℕ) (set : FrameSet) → row ≡ row_found (flow_at port set b) → IfSome row (λ at. at + 32 ≤ length b)
+  flow_inside port set e = if_found (λ at. at + 32 ≤ length b) e (omega (arith, flow_fits_lem b port set refl))
+
+  pub session_inside : (key : ℕ) → row ≡ row_found (session_at key b) → IfSome row (λ at. at + 32 ≤ length b)
+  session_inside key e = if_found (λ at. at + 32 ≤ length b) e (omega (arith, session_fits_lem b key refl))

@@ -11,6 +11,7 @@ pub mod Sizes
 pub mod BaseParts
 pub mod ImageParts
 pub mod ImageLaws
+pub mod RowFound
 pub mod FindLaws
 pub mod FoundLaws
 pub mod CountLaws

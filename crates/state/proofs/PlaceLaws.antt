@@ -18,7 +18,7 @@ use Rattle.plan.proofs.Kept.{rules, good_numbers}
 use Rattle.plan.proofs.Found.{flow_found, flow_passes}
 use Rattle.state.specs.State.{State}
 use Rattle.state.specs.Image.{behind_places, place_from, places, flow_in, state_of, ok_image}
-use Rattle.state.specs.Rows.{row_at_place, numbered_at, flow_of_row}
+use Rattle.state.specs.Rows.{row_found, row_at_place, numbered_at, flow_of_row}
 use Rattle.state.proofs.Rules.{valid_parts}
 use Rattle.state.proofs.TableLaws.{rows_few}
 use Rattle.state.proofs.Sizes.{sized}
@@ -68,7 +68,7 @@ module _ (b : List ℕ)
   unfolding numbered_at
   numbered_not w = rw w
 
-  numbered_row : within 1 32 n ≡ true → flow_of_row (numbered_at n b) b ≡ at_place place 1 (drop 256 b)
+  numbered_row : within 1 32 n ≡ true → flow_of_row (row_found (numbered_at n b)) b ≡ at_place place 1 (drop 256 b)
   unfolding flow_of_row at_place
   numbered_row w =
       rw (numbered_at_lem w)
@@ -78,11 +78,11 @@ module _ (b : List ℕ)
       let at : 256 + (place - 1) * 32 ≡ 224 + place * 32 = omega arith in
       simp (e, ne_eqb (224 + place * 32) 0 (λ z. omega arith), drop-drop, at)))
 
-  pub numbered_flow : flow_of_row (numbered_at n b) b ≡ flow_numbered n plan
+  pub numbered_flow : flow_of_row (row_found (numbered_at n b)) b ≡ flow_numbered n plan
   unfolding flow_numbered state_of flow_of_row
   numbered_flow = go (within 1 32 n) refl
     where
-      go : (t : Bool) → within 1 32 n ≡ t → flow_of_row (numbered_at n b) b ≡ flow_numbered n plan
+      go : (t : Bool) → within 1 32 n ≡ t → flow_of_row (row_found (numbered_at n b)) b ≡ flow_numbered n plan
       go true w = numbered_row w ∙ place_flow n 32 1 (drop 256 b) (omega arith)
       go false w = rw (numbered_not w) (sym (no_number n plan.flows w known))
 

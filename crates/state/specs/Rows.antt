@@ -1,6 +1,6 @@
 -- Where rows stand in an image: how the code finds them. What a reader must believe stands in State and Image; the laws in proofs/
 -- say that what is found is what those definitions mean.
-use Rattle.std.specs.Prelude.{List, Bool, cond, not, ℕ, zero, suc, ◌+◌, ◌-◌, ◌*◌, get_or, drop, eqb}
+use Rattle.std.specs.Prelude.{List, Option, None, Some, Bool, cond, not, ℕ, zero, suc, ◌+◌, ◌-◌, ◌*◌, get_or, drop, eqb}
 use Rattle.octets.specs.Octets.{low_number}
 use Rattle.octets.specs.Lists.{within}
 use Rattle.codec.specs.declared.FrameSet.{FrameSet}
@@ -13,6 +13,10 @@ use Rattle.state.specs.Image.{flow_in, session_in}
 use Rattle.state.specs.Layout.{places_at, ports_at, flows_at, sessions_at}
 use Rattle.state.specs.Layout.{most_ports, most_flows, most_sessions, port_width, flow_width, session_width}
 use Rattle.state.specs.Layout.{port_number_at, flow_vid_at, session_notice_at}
+
+-- Below, where a row stands is a number, and 0 is no row. The code answers this: no row, or a row and where it stands.
+abbrev pub row_found : ℕ → Option ℕ
+row_found at = cond (eqb at 0) None (Some at)
 
 -- where the first row stands that passes a test, of n rows of so many octets, the first of which stands at `at`; 0 if none does
 unfoldable pub find_row : ℕ → ℕ → (List ℕ → Bool) → ℕ → List ℕ → ℕ
@@ -42,12 +46,12 @@ row_at_place place = cond (within 1 most_flows place) (flows_at - flow_width + p
 unfoldable pub numbered_at : ℕ → List ℕ → ℕ
 numbered_at flow b = cond (within 1 most_flows flow) (row_at_place (get_or b (places_at - 1 + flow) 0)) 0
 
--- the flow of a row
-unfoldable pub flow_of_row : ℕ → List ℕ → Flow
-flow_of_row at b = cond (eqb at 0) no_flow (flow_in (drop at b))
+-- the flow of a row, if there is one
+unfoldable pub flow_of_row : Option ℕ → List ℕ → Flow
+flow_of_row None b = no_flow
+flow_of_row (Some at) b = flow_in (drop at b)
 
--- the machine of a session's row
-unfoldable pub machine_of_row : ℕ → List ℕ → Machine
-machine_of_row at b =
-    let x = session_in (drop at b) in
-    cond (eqb at 0) Inactive (cond (is_open x) (Active x) Inactive)
+-- the machine of a session's row, if there is one
+unfoldable pub machine_of_row : Option ℕ → List ℕ → Machine
+machine_of_row None b = Inactive
+machine_of_row (Some at) b = let x = session_in (drop at b) in cond (is_open x) (Active x) Inactive

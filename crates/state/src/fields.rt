@@ -1,142 +1,117 @@
 // What an image says, whatever its octets are.
-ghost use Rattle.std.specs.Prelude.{◌≡◌, cond, ◌+◌, ◌≤◌, length, eqb};
+ghost use Rattle.std.specs.Prelude.{◌≡◌, cond, ◌+◌, ◌≤◌, length, drop, IfSome, option_map};
 ghost use Rattle.octets.specs.Lists.{count};
 ghost use Rattle.machine.specs.Machine.{is_open};
 ghost use Rattle.plan.specs.declared.Flow.{Flow};
 ghost use Rattle.plan.specs.Plan.{port_numbered, mp_at};
 ghost use Rattle.state.specs.State.{is_allowed, machine_of, full_for, notice_due};
-ghost use Rattle.state.specs.Image.{state_of};
+ghost use Rattle.state.specs.Image.{flow_in, state_of};
 ghost use Rattle.state.specs.Rows.{flow_of_row, machine_of_row};
 
 use crate::layout::{
-    ALLOWED_BEFORE, CLOCK_AT, FLOW_MPS_AT, FLOW_NUMBER_AT, MOST_SESSIONS, SESSION_NOTICE_AT,
+    ALLOWED_BEFORE, CLOCK_AT, FLOW_MPS_AT, FLOW_NUMBER_AT, Image, MOST_SESSIONS, SESSION_NOTICE_AT,
     SESSION_WIDTH, SESSIONS_AT,
 };
 use crate::records::{read_port, read_session, wide};
 use crate::rows::{owed_at, port_at, session_at};
-use machine::{MAX_SESSIONS_EXCEEDED, Machine};
+use machine::Machine;
 use octets::{low4, low8};
 use plan::Port;
 
-pub fn clock_of(b: &[u8]) -> u32
-    requires { length b.now ≡ 4096 }
+pub fn clock_of(b: &Image) -> u32
     ensures { result ≡ (state_of b.now).clock }
 {
     low4(b, CLOCK_AT)
 }
 
 // A port by its number, or one with number 0.
-pub fn port_numbered(b: &[u8], number: u32) -> Port
-    requires { length b.now ≡ 4096 }
+pub fn port_numbered(b: &Image, number: u32) -> Port
     ensures { result ≡ port_numbered number (state_of b.now).plan }
 {
-    let at = port_at(b, number);
-    if at == 0 {
+    let Some(at) = port_at(b, number) else {
         return Port {
             number: 0,
             kind: 0,
             address: 0,
         };
-    }
+    };
     read_port(b, at)
 }
 
-// The number of the flow of a row, or 0.
-pub fn number_of(b: &[u8], row: usize) -> u8
-    requires { row + 32 ≤ length b.now }
-    ensures { result ≡ (flow_of_row row b.now).number }
+// The number of the flow of a row, if there is one.
+pub fn number_of(b: &[u8], row: Option<usize>) -> Option<u8>
+    requires { IfSome row (λ at. at + 32 ≤ length b.now) }
+    ensures { result ≡ option_map (λ at. (flow_in (drop at b.now)).number) row }
 {
-    if row == 0 {
-        return 0;
-    }
-    b[row + FLOW_NUMBER_AT]
+    row.map(|at| b[at + FLOW_NUMBER_AT])
 }
 
-// The MP at a level of the flow of a row, or 0.
-pub fn mp_of(b: &[u8], row: usize, level: u8) -> u8
-    requires { row + 32 ≤ length b.now }
+// The MP at a level of the flow of a row; of no row, 0.
+// Stays a number: the definition `mp_at` has 0 for no MP, and `faces` takes it.
+pub fn mp_of(b: &[u8], row: Option<usize>, level: u8) -> u8
+    requires { IfSome row (λ at. at + 32 ≤ length b.now) }
     ensures { result ≡ mp_at level (flow_of_row row b.now) }
 {
-    if row == 0 {
+    let Some(at) = row else {
         return 0;
-    }
+    };
     if 7 < level {
         return 0;
     }
-    b[row + FLOW_MPS_AT + wide(level)]
+    b[at + FLOW_MPS_AT + wide(level)]
 }
 
-pub fn allows(b: &[u8], flow: usize) -> bool
-    requires { (length b.now ≡ 4096) × ((1 ≤ flow) × (flow ≤ 32)) }
+pub fn allows(b: &Image, flow: usize) -> bool
+    requires { (1 ≤ flow) × (flow ≤ 32) }
     ensures { result ≡ is_allowed flow (state_of b.now) }
 {
     b[ALLOWED_BEFORE + flow] == 1
 }
 
-// The machine of a key, whose session's row has been found; of 0, it is inactive.
-pub fn machine_at(b: &[u8], row: usize) -> Machine
-    requires { row + 32 ≤ length b.now }
+// The machine of a key, whose session's row is this; without one, it is inactive.
+pub fn machine_at(b: &[u8], row: Option<usize>) -> Machine
+    requires { IfSome row (λ at. at + 32 ≤ length b.now) }
     ensures { result ≡ machine_of_row row b.now }
 {
-    if row == 0 {
+    let Some(at) = row else {
         return Machine::Inactive;
-    }
-    let s = read_session(b, row);
+    };
+    let s = read_session(b, at);
     if s.notice != 0 {
         return Machine::Inactive;
     }
     Machine::Active(s)
 }
 
-pub fn machine_of(b: &[u8], key: u64) -> Machine
-    requires { length b.now ≡ 4096 }
+pub fn machine_of(b: &Image, key: u64) -> Machine
     ensures { result ≡ machine_of key (state_of b.now).sessions }
 {
-    let row = session_at(b, key);
-    machine_at(b, row)
+    machine_at(b, session_at(b, key))
 }
 
-pub fn notice_due(b: &[u8]) -> bool
-    requires { length b.now ≡ 4096 }
+pub fn notice_due(b: &Image) -> bool
     ensures { result ≡ notice_due (state_of b.now) }
 {
-    owed_at(b) != 0
+    owed_at(b).is_some()
 }
 
-// 1 if the octet is 0.
-fn open_mark(notice: u8) -> usize
-    ensures { (result ≡ cond (eqb notice 0) 1 0) × (result ≤ 1) }
-{
-    if notice == 0 {
-        return 1;
-    }
-    0
-}
-
-pub fn open_count(b: &[u8]) -> usize
-    requires { length b.now ≡ 4096 }
+pub fn open_count(b: &Image) -> usize
     ensures { result ≡ count is_open (state_of b.now).sessions }
 {
     let mut n: usize = 0;
-    let mut i: usize = 0;
-    while i < MOST_SESSIONS {
+    for i in 0..MOST_SESSIONS {
         let at = SESSIONS_AT + i * SESSION_WIDTH;
         if low8(b, at) == 0 {
             return n;
         }
-        n += open_mark(b[at + SESSION_NOTICE_AT]);
-        i += 1;
+        n += usize::from(b[at + SESSION_NOTICE_AT] == 0);
     }
     n
 }
 
-// Is the unit full for one more session? 0, or the code of the reply.
-pub fn full_for(b: &[u8]) -> u8
-    requires { length b.now ≡ 4096 }
-    ensures { (f : Flow) → result ≡ full_for f (state_of b.now) }
+// Is the unit full for one more session?
+pub fn full_for(b: &Image) -> bool
+    ensures { (f : Flow) → cond result 2 0 ≡ full_for f (state_of b.now) }
 {
-    if open_count(b) < MOST_SESSIONS {
-        return 0;
-    }
-    MAX_SESSIONS_EXCEEDED
+    MOST_SESSIONS <= open_count(b)
 }

@@ -2,6 +2,9 @@
 
 pub const IMAGE_LENGTH: usize = 4096;
 
+// The octets of a state, as the host lends them.
+pub type Image = [u8; IMAGE_LENGTH];
+
 // The parts of an image. Two eights of octets say how many sessions of the ports are open.
 pub const CLOCK_AT: usize = 0;
 

@@ -1,5 +1,5 @@
 -- The rows of a plan, or what is made of each, put in up to the first empty one: a turn of the loop.
-use mathlib.Core.Path.{◌≡◌, sym, ◌∙◌}
+use mathlib.Core.Path.{◌≡◌, sym, ap, ◌∙◌}
 use mathlib.Core.List.{List, [], ◌∷◌}
 use Prim.Native.Nat.{ℕ, ◌+◌, ◌*◌, ◌<◌, ◌≤◌}
 use native.Mathlib.Omega.{arith}
@@ -51,6 +51,11 @@ abbrev pub rows_put : {A : Type 0} → (A → List ℕ) → ℕ → ℕ → Put 
 rows_put row start width i xs b = splice (start + i * width) (rows row xs) b
 
 module _ {A : Type 0} (row : A → List ℕ) (start width : ℕ) where
+  pub from_start : (xs : List A) (b : List ℕ) → rows_put row start width 0 xs b ≡ splice start (rows row xs) b
+  from_start xs b =
+      let e : start + 0 * width ≡ start = omega arith in
+      ap (λ n. splice n (rows row xs) b) e
+
   pub no_row : (i : ℕ) (b : List ℕ) → rows_put row start width i [] b ≡ b
   unfolding rows
   no_row i b = splice_none (start + i * width) b

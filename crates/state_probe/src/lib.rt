@@ -7,8 +7,8 @@ ghost use Rattle.state_probe.specs.Probe.{session_part, machine_at, looked};
 
 use codec::FrameSet;
 use machine::Machine;
-use state::{flow_at, machine_of, mp_of, number_of};
-use state_valid::is_image;
+use state::{Image, flow_at, machine_of, mp_of, number_of};
+use state_valid::is_valid;
 
 fn session_part(m: Machine) -> u64
     ensures { (result ≡ session_part m) × (result + 2 ^ 24 < 2 ^ 64) }
@@ -26,14 +26,25 @@ fn low_part(number: u8, mp: u8) -> u64
 }
 
 // The machine of a flow and a source; one of more than 48 bits is no session's.
-fn machine_at(image: &[u8], flow: u8, source: u64) -> Machine
-    requires { length image.now ≡ 4096 }
+fn machine_at(image: &Image, flow: u8, source: u64) -> Machine
     ensures { result ≡ machine_at (state_of image.now) flow source }
 {
     if 281474976710656 <= source {
         return Machine::Inactive;
     }
     machine_of(image, flow as u64 * 281474976710656 + source)
+}
+
+fn look(image: &Image, port: u8, kind: u8, vid: u16, level: u8, source: u64) -> u64
+    ensures { result ≡ looked image.now port kind vid level source }
+{
+    if is_valid(image) {
+        let row = flow_at(image, port, FrameSet { kind, vid });
+        let number = number_of(image, row).unwrap_or(0);
+        let m = machine_at(image, number, source);
+        return low_part(number, mp_of(image, row, level)) + session_part(m);
+    }
+    0
 }
 
 #[unsafe(no_mangle)]
@@ -47,11 +58,8 @@ pub extern "C" fn probe_look(
 ) -> u64
     ensures { result ≡ looked image.now port kind vid level source }
 {
-    if is_image(image) {
-        let row = flow_at(image, port, FrameSet { kind, vid });
-        let number = number_of(image, row);
-        let m = machine_at(image, number, source);
-        return low_part(number, mp_of(image, row, level)) + session_part(m);
+    match image.as_array() {
+        Some(image) => look(image, port, kind, vid, level, source),
+        None => 0,
     }
-    0
 }

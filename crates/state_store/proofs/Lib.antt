@@ -1,4 +1,5 @@
 pub mod MapLaws
+pub mod RowOctets
 pub mod PlaceLaws
 pub mod Steps
 pub mod Ways

@@ -16,7 +16,7 @@ use Rattle.octets.proofs.Ordered.{next_key, without_none}
 use Rattle.machine.specs.declared.Session.{Session}
 use Rattle.machine.specs.Machine.{key_of}
 use Rattle.state.specs.Image.{zeros, session_row}
-use Rattle.state.specs.Rows.{session_at}
+use Rattle.state.specs.Rows.{row_found, session_at}
 use Rattle.state.proofs.RowLaws.{SessionFits, session_length}
 use Rattle.state.proofs.TableLaws.{Each}
 use Rattle.state_store.specs.StoredRows.{row_removed, session_removed}
@@ -87,8 +87,14 @@ remove_from_lem h t m (suc k) n last key (y ∷ ys) long start fit a f few =
     rw (e, later, past_first t n y ys h m, past_first t n y (without key_of key ys) h m)
     (remove_from_lem g t (m + 32) k (n - 32) (key_of y) key ys c (omega arith) (omega arith) p.1 f.1 (le_of_suc-le-suc few)))
 
+removed_found : (row : ℕ) (b : List ℕ)
+    → row_removed (row_found row) b ≡ cond (eqb row 0) b (splice 2016 (zeros 32) (moved_down 32 (row + 32) 2048 b))
+unfolding row_removed
+removed_found row b = by_eq row 0 (λ e none. simp e) (λ e some. simp e)
+
 -- Behind a head of 1,536 octets.
 pub removed_table : (h t : List ℕ) (key : ℕ) (xs : List Session) → length h ≡ 1536 → Tabled xs
     → session_removed key (h ++ table_then t 512 xs) ≡ h ++ table_then t 512 (without key_of key xs)
-unfolding session_removed row_removed session_at remove_from
-removed_table h t key xs long k = remove_from_lem h t 1536 16 512 0 key xs long (omega arith) (omega arith) k.order k.fit k.few
+unfolding session_removed session_at remove_from
+removed_table h t key xs long k =
+    rw removed_found (remove_from_lem h t 1536 16 512 0 key xs long (omega arith) (omega arith) k.order k.fit k.few)

@@ -7,12 +7,10 @@ use native.Mathlib.Omega.{arith}
 use lib.Dec.{eqb, leb}
 use Rattle.octets.specs.Octets.{low_number}
 use Rattle.machine.specs.declared.Session.{Session}
-use Rattle.machine.specs.declared.Sweep.{Sweep}
-use Rattle.machine.specs.declared.Sweep.TheVariants.{Ticked, Managed}
 use Rattle.machine.specs.Table.{active, timer_expiration, action_of, nothing, expire, withdraw}
 use Rattle.machine.specs.Machine.{key, key_of, is_open, lasting, owed}
 use Rattle.machine.specs.Management.{closed_by, managed_by}
-use Rattle.machine.specs.Time.{ticked, swept}
+use Rattle.machine.specs.Time.{ticked}
 use Rattle.state.specs.Image.{session_in}
 use Rattle.state.proofs.RowLaws.{SessionFits, session_key_in}
 
@@ -74,15 +72,18 @@ keeps_closed action x =
     (keeps_cond (eqb action expire) (keeps_owed 8 x)
     (keeps_cond (eqb action withdraw) (keeps_owed 9 x) (keeps_owed 255 x)))
 
-pub keeps_swept : (sweep : Sweep) (x : Session) → Keeps x (swept sweep x)
-unfolding swept ticked managed_by
-keeps_swept (Ticked passed) x =
+pub keeps_ticked : (passed : ℕ) (x : Session) → Keeps x (ticked passed x)
+unfolding ticked
+keeps_ticked passed x =
     keeps_cond (is_open x)
     (keeps_cond (leb x.left passed)
     (keeps_closed (action_of active timer_expiration) x)
     (keeps_lasting (x.left - passed) x (omega arith)))
     (keeps_same x)
-keeps_swept (Managed action flow) x =
+
+pub keeps_managed : (action flow : ℕ) (x : Session) → Keeps x (managed_by action flow x)
+unfolding managed_by
+keeps_managed action flow x =
     keeps_cond (is_open x && eqb x.flow flow) (keeps_closed action x) (keeps_same x)
 
 module _ {x y : Session} (k : Keeps x y) where
@@ -100,5 +101,5 @@ module _ {x y : Session} (k : Keeps x y) where
       }
 
 -- the row that x was read from has the key of what became of it
-pub kept_in : (l : List ℕ) {x y z : Session} → Keeps x z → y ≡ z → x ≡ session_in l → low_number 8 l ≡ key_of y
-kept_in l k ey ex = sym (rw (ey, kept_key k, ex) (session_key_in l))
+pub kept_in : (l : List ℕ) (x y : Session) → key_of y ≡ key_of x → x ≡ session_in l → low_number 8 l ≡ key_of y
+kept_in l x y k ex = sym (rw (k, ex) (session_key_in l))

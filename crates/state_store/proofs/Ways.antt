@@ -6,6 +6,7 @@ use native.Mathlib.Omega.{arith}
 use lib.ListN.{length, take, drop, replicate, length-drop, take-append-drop}
 use lib.Seq.{length-take-le}
 use borrow.Author.Tests.{eq-eqb, ne_eqb, le-ltb, lt-ltb}
+use Rattle.std.specs.Prelude.{Some}
 use Rattle.octets.specs.Octets.{low_number, low_octets, splice, moved_up, moved_down}
 use Rattle.octets.proofs.Laws.{Octets}
 use Rattle.octets.proofs.LowLaws.{low_octets_length, octets_low_at}
@@ -81,12 +82,7 @@ module _ (x : Session) (b : List ℕ) (at key : ℕ) (ek : key ≡ key_of x) (ea
 
 -- ---- the session of a row is taken out
 
-module _ (row : ℕ) (b : List ℕ) where
-  pub removed_none : row ≡ 0 → b ≡ row_removed row b
-  unfolding row_removed
-  removed_none e = rw (eq-eqb row 0 e)
-
-  pub removed_there : {c d : List ℕ} → (row ≡ 0 → ⊥) → c ≡ moved_down 32 (row + 32) 2048 b → d ≡ splice 2016 (replicate 32 0) c
-      → d ≡ row_removed row b
-  unfolding row_removed zeros
-  removed_there more ec ed = rw (ed, ec, ne_eqb row 0 more)
+pub removed_there : (row : ℕ) (b : List ℕ) {c d : List ℕ} → c ≡ moved_down 32 (row + 32) 2048 b
+    → d ≡ splice 2016 (replicate 32 0) c → d ≡ row_removed (Some row) b
+unfolding row_removed zeros
+removed_there row b ec ed = rw (ed, ec)

@@ -1,10 +1,10 @@
 -- How the code rewrites the lent octets. The laws in proofs/ say what each of these makes of a state's image.
-use Rattle.std.specs.Prelude.{List, ◌++◌, cond, ℕ, zero, suc, ◌+◌, take, drop, eqb, ltb}
+use Rattle.std.specs.Prelude.{List, ◌++◌, Option, None, Some, cond, ℕ, zero, suc, ◌+◌, take, drop, eqb, ltb}
 use Rattle.octets.specs.Octets.{low_number, splice, moved_up, moved_down}
 use Rattle.machine.specs.declared.Session.{Session}
 use Rattle.machine.specs.Machine.{key_of}
 use Rattle.state.specs.Image.{zeros, session_row, session_in}
-use Rattle.state.specs.Rows.{session_at}
+use Rattle.state.specs.Rows.{row_found, session_at}
 
 -- at most n rows at the head of l, each session put through f
 unfoldable pub map_rows : (Session → Session) → ℕ → List ℕ → List ℕ
@@ -40,13 +40,14 @@ session_inserted x b = let at = place_of (key_of x) b in cond (ltb at 2048) (row
 unfoldable pub session_put : Session → List ℕ → List ℕ
 session_put x b = let row = session_at (key_of x) b in cond (eqb row 0) (session_inserted x b) (row_put row x b)
 
--- b without this row, the rows after it one place nearer; row 0 is none
-unfoldable pub row_removed : ℕ → List ℕ → List ℕ
-row_removed row b = cond (eqb row 0) b (splice 2016 (zeros 32) (moved_down 32 (row + 32) 2048 b))
+-- b without this row, if there is one, the rows after it one place nearer
+unfoldable pub row_removed : Option ℕ → List ℕ → List ℕ
+row_removed None b = b
+row_removed (Some row) b = splice 2016 (zeros 32) (moved_down 32 (row + 32) 2048 b)
 
 -- b without the row that has this key
 unfoldable pub session_removed : ℕ → List ℕ → List ℕ
-session_removed key b = row_removed (session_at key b) b
+session_removed key b = row_removed (row_found (session_at key b)) b
 
 -- b without any session
 unfoldable pub sessions_cleared : List ℕ → List ℕ

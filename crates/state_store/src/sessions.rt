@@ -1,31 +1,32 @@
 // All sessions at once: time passes, a flow is allowed or prohibited, the unit restarts.
 ghost use Rattle.std.specs.Prelude.{◌≡◌, length};
-ghost use Rattle.machine.specs.Time.{swept};
+ghost use Rattle.machine.specs.declared.Session.{Session};
+ghost use Rattle.machine.specs.Machine.{key_of};
 ghost use Rattle.state_store.specs.StoredRows.{sessions_mapped, sessions_cleared};
 
 use crate::row::write_rest;
-use machine::{Sweep, swept};
+use machine::Session;
 use octets::{clear, low8};
-use state::{MOST_SESSIONS, SESSION_WIDTH, SESSIONS_AT, SESSIONS_END, read_session};
+use state::{Image, MOST_SESSIONS, SESSION_WIDTH, SESSIONS_AT, SESSIONS_END, read_session};
 
-pub fn sweep_sessions(b: &mut [u8], sweep: Sweep)
-    requires { length b.old ≡ 4096 }
-    ensures { b.new ≡ sessions_mapped (swept sweep) b.old }
+// Puts each session through a step. (The rows keep their keys.)
+pub fn sweep_sessions<F: Fn(Session) -> Session>(b: &mut [u8], step: F)
+    requires long { length b.old ≡ 4096 }
+    requires callable { F.IsAlwaysCallable step }
+    ensures { (f : Session → Session) → ((x : Session) → key_of (f x) ≡ key_of x)
+        → ((x : Session) (y : Session) → F.post step x y → y ≡ f x) → b.new ≡ sessions_mapped f b.old }
 {
-    let mut i: usize = 0;
-    while i < MOST_SESSIONS {
+    for i in 0..MOST_SESSIONS {
         let at = SESSIONS_AT + i * SESSION_WIDTH;
         if low8(b, at) == 0 {
             return;
         }
         let x = read_session(b, at);
-        write_rest(b, at, swept(sweep, x));
-        i += 1;
+        write_rest(b, at, step(x));
     }
 }
 
-pub fn clear_sessions(b: &mut [u8])
-    requires { length b.old ≡ 4096 }
+pub fn clear_sessions(b: &mut Image)
     ensures { b.new ≡ sessions_cleared b.old }
 {
     clear(b, SESSIONS_AT, SESSIONS_END);

@@ -6,7 +6,7 @@ use Prim.Native.Nat.{ℕ, ◌+◌, ◌-◌, ◌≤◌}
 use native.Mathlib.Omega.{arith}
 use lib.ListN.{length, take, drop, length-drop}
 use lib.Seq.{take_all}
-use borrow.Author.Tests.{ne_eqb}
+use lib.Dec.{eqb}
 use Rattle.octets.specs.Octets.{low_number, all_zero}
 use Rattle.octets.proofs.LowLaws.{low_zero}
 use Rattle.octets.proofs.Zero.{zero_parts, run_rest}
@@ -18,14 +18,10 @@ pub zero_cut : (at m n : ℕ) (l : List ℕ)
     → all_zero (take (m + n) (drop at l)) ≡ (all_zero (take m (drop at l)) && all_zero (take n (drop (at + m) l)))
 zero_cut at m n l = rw (take_on, zero_parts)
 
--- k is the number that n octets at a place spell: with the m octets behind it
-module _ (at n m : ℕ) (l : List ℕ) {k : ℕ} {X : Bool} (inv : all_zero (take (n + m) (drop at l)) ≡ X)
-    (read : k ≡ low_number n (drop at l)) where
-  pub head_next : k ≡ 0 → all_zero (take m (drop (at + n) l)) ≡ X
-  head_next e = rw (zero_cut, ← low_zero, ← read, e) at inv
-
-  pub head_bad : (k ≡ 0 → ⊥) → false ≡ X
-  head_bad e = rw (zero_cut, ← low_zero, ← read, ne_eqb k 0 e) at inv
+-- the number that n octets at a place spell, and the m octets behind it
+pub word_cut : (at n m : ℕ) (l : List ℕ)
+    → all_zero (take (n + m) (drop at l)) ≡ (eqb (low_number n (drop at l)) 0 && all_zero (take m (drop (at + n) l)))
+word_cut at n m l = rw (zero_cut, ← low_zero)
 
 -- from each place from `at` to `i` on, all octets are zero when those from `at` on are
 abbrev pub SameFrom : (at i : ℕ) (t : List ℕ) → Type 0

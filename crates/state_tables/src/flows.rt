@@ -9,7 +9,7 @@ use crate::marks::used;
 use crate::rest::{LONG_RUN, rest_zero};
 use octets::{low4, low8};
 use state::{
-    FLOW_FREE_AT, FLOW_LATER_FREE_AT, FLOW_MPS_AT, FLOW_PORT_AT, FLOW_VID_AT, FLOW_WIDTH,
+    FLOW_FREE_AT, FLOW_LATER_FREE_AT, FLOW_MPS_AT, FLOW_PORT_AT, FLOW_VID_AT, FLOW_WIDTH, Image,
     LAST_FLOW, MOST_FLOWS, PLACES_AT, PLACES_BEFORE, PLACES_END, PORT_KIND_AT, port_at, wide,
 };
 
@@ -40,95 +40,67 @@ fn octet_sum(x: u64) -> u64
     fours % 65536 + fours / 65536
 }
 
-fn kind_of(b: &[u8], port: u8) -> u8
-    requires { length b.now ≡ 4096 }
+fn kind_of(b: &Image, port: u8) -> u8
     ensures { result ≡ (port_numbered port (state_of b.now).plan).kind }
 {
-    let at = port_at(b, port as u32);
-    if at == 0 {
+    let Some(at) = port_at(b, port as u32) else {
         return 0;
-    }
+    };
     b[at + PORT_KIND_AT]
 }
 
 // The same, if the kind of the row before is known.
-fn kind_again(b: &[u8], before: u8, kind: u8, port: u8) -> u8
-    requires { (length b.now ≡ 4096) × (kind ≡ (port_numbered before (state_of b.now).plan).kind) }
+fn kind_again(b: &Image, before: u8, kind: u8, port: u8) -> u8
+    requires { kind ≡ (port_numbered before (state_of b.now).plan).kind }
     ensures { result ≡ (port_numbered port (state_of b.now).plan).kind }
 {
     if port == before {
-        return kind;
+        kind
+    } else {
+        kind_of(b, port)
     }
-    kind_of(b, port)
 }
 
 fn set_fits(kind: u8, set: u32) -> bool
     ensures { result ≡ set_fits kind set }
 {
-    if kind == 0 {
-        return false;
-    }
-    if set == 65536 {
-        return true;
-    }
-    let base = (kind as u32 + 1) * 65536;
-    if set <= base {
-        return false;
-    }
-    set <= base + 4094
+    let base = (u32::from(kind) + 1) * 65536;
+    kind != 0 && (set == 65536 || base < set && set <= base + 4094)
 }
 
-fn place_fits(b: &[u8], place: usize, low: u32) -> bool
-    requires { length b.now ≡ 4096 }
+fn place_fits(b: &Image, place: usize, low: u32) -> bool
     ensures { result ≡ place_fits b.now place low }
 {
-    if low % 256 != 0 {
-        return false;
-    }
     let number = low / 256;
-    if number < 1 {
-        return false;
-    }
-    if LAST_FLOW < number {
-        return false;
-    }
-    wide(b[PLACES_BEFORE + number as usize]) == place
+    low % 256 == 0
+        && 1 <= number
+        && number <= LAST_FLOW
+        && wide(b[PLACES_BEFORE + number as usize]) == place
 }
 
 // The places are counted beside the comparison: there the compiler counts all of them at once.
-fn marks_fit(b: &[u8], odd: u64, marks: u64, rows: usize) -> bool
-    requires { length b.now ≡ 4096 }
+fn marks_fit(b: &Image, odd: u64, marks: u64, rows: usize) -> bool
     ensures { result
         ≡ (eqb odd 0
         && leb (octet_sum 8 marks) 128
         && eqb rows (count (leb 1) (take 32 (drop 64 b.now)))) }
 {
-    if odd != 0 {
-        return false;
-    }
-    if MOST_MARKS < octet_sum(marks) {
-        return false;
-    }
-    rows == used(&b[PLACES_AT..PLACES_END])
+    odd == 0 && octet_sum(marks) <= MOST_MARKS && rows == used(&b[PLACES_AT..PLACES_END])
 }
 
-pub fn flows_fit(b: &[u8], t: &[u8]) -> bool
-    requires { (length b.now ≡ 4096) × (length t.now ≡ 1024) }
+pub fn flows_fit(b: &Image, t: &[u8]) -> bool
+    requires { length t.now ≡ 1024 }
     ensures { result ≡ ok_flows b.now t.now }
 {
-    let mut i: usize = 0;
     let mut last: u32 = 0;
     let mut odd: u64 = 0;
     let mut marks: u64 = 0;
     let mut port = t[FLOW_PORT_AT];
     let mut kind = kind_of(b, port);
-    while i < MOST_FLOWS {
+    for i in 0..MOST_FLOWS {
         let at = i * FLOW_WIDTH;
         if low8(t, at) == 0 {
-            if marks_fit(b, odd, marks, i) {
-                return rest_zero(t, at, LONG_RUN);
-            }
-            return false;
+            return marks_fit(b, odd, marks, i) && rest_zero(t, at, LONG_RUN);
         }
         let key = low4(t, at + FLOW_VID_AT);
         if key <= last {
@@ -137,17 +109,14 @@ pub fn flows_fit(b: &[u8], t: &[u8]) -> bool
         last = key;
         kind = kind_again(b, port, kind, t[at + FLOW_PORT_AT]);
         port = t[at + FLOW_PORT_AT];
-        if set_fits(kind, key % 16777216) {
-            if place_fits(b, i + 1, low4(t, at)) {
-                odd = odd | odd_of(t, at);
-                marks += marks_of(low8(t, at + FLOW_MPS_AT));
-                i += 1;
-            } else {
-                return false;
-            }
-        } else {
+        if !set_fits(kind, key % 16777216) {
             return false;
         }
+        if !place_fits(b, i + 1, low4(t, at)) {
+            return false;
+        }
+        odd |= odd_of(t, at);
+        marks += marks_of(low8(t, at + FLOW_MPS_AT));
     }
-    marks_fit(b, odd, marks, i)
+    marks_fit(b, odd, marks, MOST_FLOWS)
 }

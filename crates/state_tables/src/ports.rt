@@ -14,19 +14,7 @@ fn good_port(p: Port) -> bool
     requires { p.address < 2 ^ 48 }
     ensures { result ≡ good_port p }
 {
-    if p.number < 1 {
-        return false;
-    }
-    if 8 < p.number {
-        return false;
-    }
-    if p.kind < 1 {
-        return false;
-    }
-    if 2 < p.kind {
-        return false;
-    }
-    good_address(p.address)
+    1 <= p.number && p.number <= 8 && 1 <= p.kind && p.kind <= 2 && good_address(p.address)
 }
 
 fn port_fits(t: &[u8], at: usize, last: u8) -> bool
@@ -37,32 +25,23 @@ fn port_fits(t: &[u8], at: usize, last: u8) -> bool
     if p.number <= last {
         return false;
     }
-    if good_port(p) {
-        return low8(t, at + PORT_FREE_AT) == 0;
-    }
-    false
+    good_port(p) && low8(t, at + PORT_FREE_AT) == 0
 }
 
 pub fn ports_fit(t: &[u8]) -> bool
     requires { length t.now ≡ 128 }
     ensures { result ≡ ok_ports t.now }
 {
-    let mut i: usize = 0;
     let mut last: u8 = 0;
-    while i < MOST_PORTS {
+    for i in 0..MOST_PORTS {
         let at = i * PORT_WIDTH;
         if low8(t, at) == 0 {
-            if last == 0 {
-                return false;
-            }
-            return rest_zero(t, at, SHORT_RUN);
+            return last != 0 && rest_zero(t, at, SHORT_RUN);
         }
-        if port_fits(t, at, last) {
-            last = t[at + PORT_NUMBER_AT];
-            i += 1;
-        } else {
+        if !port_fits(t, at, last) {
             return false;
         }
+        last = t[at + PORT_NUMBER_AT];
     }
     last != 0
 }
@@ -73,8 +52,7 @@ fn address_again(t: &[u8], from: usize, address: u64) -> bool
     ensures { result
         ≡ some (eqb address) (map (λ p. p.address) (rows_in (8 - from) 16 port_in (drop (from * 16) t.now))) }
 {
-    let mut i = from;
-    while i < MOST_PORTS {
+    for i in from..MOST_PORTS {
         let at = i * PORT_WIDTH;
         if low8(t, at) == 0 {
             return false;
@@ -82,7 +60,6 @@ fn address_again(t: &[u8], from: usize, address: u64) -> bool
         if low6(t, at) == address {
             return true;
         }
-        i += 1;
     }
     false
 }
@@ -91,8 +68,7 @@ pub fn addresses_differ(t: &[u8]) -> bool
     requires { length t.now ≡ 128 }
     ensures { result ≡ distinct (map (λ p. p.address) (rows_in 8 16 port_in t.now)) }
 {
-    let mut i: usize = 0;
-    while i < MOST_PORTS {
+    for i in 0..MOST_PORTS {
         let at = i * PORT_WIDTH;
         if low8(t, at) == 0 {
             return true;
@@ -100,7 +76,6 @@ pub fn addresses_differ(t: &[u8]) -> bool
         if address_again(t, i + 1, low6(t, at)) {
             return false;
         }
-        i += 1;
     }
     true
 }

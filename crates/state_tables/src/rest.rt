@@ -10,18 +10,17 @@ pub const SHORT_RUN: usize = 64;
 pub const LONG_RUN: usize = 256;
 
 // Are all octets from a place on 0? By runs, as the compiler makes much of a run of known length. The last one ends where the table
-// does, and so goes over some octets again.
+// does, and so goes over some octets again. Stays a while loop: it goes on by a run and not by one, and the last run is wanted besides.
 pub fn rest_zero(t: &[u8], at: usize, run: usize) -> bool
     requires { (at ≤ length t.now) × ((length t.now ≤ 4096) × ((1 ≤ run) × (run ≤ 256))) }
     ensures { result ≡ all_zero (drop at t.now) }
 {
     let mut i = at;
     while i + run <= t.len() {
-        if all_zero(&t[i..i + run]) {
-            i += run;
-        } else {
+        if !all_zero(&t[i..i + run]) {
             return false;
         }
+        i += run;
     }
     if i == t.len() {
         return true;

@@ -3,10 +3,9 @@ use mathlib.Core.Path.{◌≡◌}
 use mathlib.Core.Bool.{Bool}
 use mathlib.Core.List.{List}
 use Prim.Native.Nat.{ℕ, ◌+◌, ◌≤◌}
-use native.Mathlib.Omega.{arith}
 use lib.ListN.{get_or, drop}
 use lib.Seq.{get_or-drop, drop-drop}
-use borrow.Author.Tests.{ne_eqb}
+use Rattle.std.specs.Prelude.{Some}
 use Rattle.octets.specs.Octets.{low_number}
 use Rattle.octets.specs.Lists.{within}
 use Rattle.octets.proofs.Cases.{by_le}
@@ -22,8 +21,8 @@ numbered_flow b {flow} e n =
     (λ f h. absurd (n (rw f at e)))
 
 -- a tag fits the row's flow, if it fits the kind and the VID that were read
-pub row_tag : (b : List ℕ) (row count tag : ℕ) {vid : ℕ} {fits : Bool} → 1 ≤ row → vid ≡ low_number 2 (drop (row + 4) b)
+pub row_tag : (b : List ℕ) (row count tag : ℕ) {vid : ℕ} {fits : Bool} → vid ≡ low_number 2 (drop (row + 4) b)
     → fits ≡ tag_fits (set_of (get_or b (row + 6) 0) vid) count tag
-    → fits ≡ tag_fits (set_of (flow_of_row row b).kind (flow_of_row row b).vid) count tag
+    → fits ≡ tag_fits (set_of (flow_of_row (Some row) b).kind (flow_of_row (Some row) b).vid) count tag
 unfolding flow_of_row flow_in
-row_tag b row count tag h v e = rw (ne_eqb row 0 (λ z. omega arith), get_or-drop, drop-drop, ← v) e
+row_tag b row count tag v e = rw (get_or-drop, drop-drop, ← v) e

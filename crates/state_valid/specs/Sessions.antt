@@ -8,13 +8,13 @@ use Rattle.plan.specs.Plan.{mp_at, faces}
 use Rattle.state.specs.State.{good_time}
 use Rattle.state.specs.Layout.{allowed_at, most_sessions, session_width}
 use Rattle.state.specs.Image.{session_in}
-use Rattle.state.specs.Rows.{numbered_at, flow_of_row}
+use Rattle.state.specs.Rows.{row_found, numbered_at, flow_of_row}
 use Rattle.state_tables.specs.Pass.{ok_rows}
 
 -- Is a session as it must be, by the row of its flow?
 unfoldable pub good_in : List ℕ → Session → Bool
 good_in b x =
-    let f = flow_of_row (numbered_at x.flow b) b in
+    let f = flow_of_row (row_found (numbered_at x.flow b)) b in
     not (eqb (numbered_at x.flow b) 0)
     && not (group x.source)
     && tag_fits (set_of f.kind f.vid) x.taglen x.tag

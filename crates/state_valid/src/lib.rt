@@ -4,4 +4,4 @@
 mod image;
 mod sessions;
 
-pub use image::is_image;
+pub use image::{is_image, is_valid};

@@ -2,11 +2,13 @@
 use mathlib.Core.Path.{◌≡◌, refl, sym, ◌∙◌}
 use mathlib.Core.Bool.{Bool, true, false, ◌&&◌, ◌||◌, and-false}
 use mathlib.Core.List.{List, []}
-use Prim.Native.Nat.{ℕ}
+use Prim.Native.Nat.{ℕ, ◌≤◌}
 use native.Mathlib.Omega.{arith}
 use lib.Dec.{eqb}
 use lib.ListN.{length}
 use borrow.Author.Tests.{eq-eqb, ne_eqb}
+use Rattle.std.specs.Prelude.{Result, IsErrAnd}
+use Rattle.std.proofs.lemmas.Result.{err_from_is_err_and}
 use Rattle.state.specs.State.{State}
 use Rattle.state.specs.Image.{image, state_of, ok_image}
 use Rattle.state.proofs.ImageLaws.{ok_length}
@@ -19,7 +21,9 @@ use Rattle.calls.proofs.Alone.{refused_8_alone, refused_image_alone}
 use Rattle.calls.proofs.CodesSent.{entered_codes}
 use Rattle.calls_requests.specs.Arrival.{Served}
 use Rattle.tmavolice.specs.Outcome.{Outcome}
-use Rattle.tmavolice.specs.Checks.{checked, Checked}
+use Rattle.tmavolice.specs.Checks.{refusal_number, answer_of, checked, Checked}
+use Rattle.tmavolice.specs.declared.refusals.Refusal.{Refusal}
+use Rattle.tmavolice.proofs.CheckLaws.{numbered}
 use Rattle.tmavolice.proofs.Rewrites.{served_rewrites}
 
 -- is there a state to call?
@@ -63,6 +67,14 @@ module _ {l : List ℕ} {c : Call} {Known : Type 0} {no : ℕ} (k : Checked l c 
   entered_served z v e =
       rw (served_is l c m (sym k.right ∙ z), served_rewrites (state_of l) c m)
       (record { answered = rw (← v.answered) e; stored = v.stored; written = v.written })
+
+-- The checks end in a refusal: the call answers it, and every octet stays.
+pub entered_err : {l : List ℕ} {c : Call} {Known : Type 0} (e : Refusal) (r : Result Answer Refusal) → IsErrAnd r (λ d. d ≡ e)
+    → Checked l c Known (refusal_number e) → makes c ≡ false → Outcome (enter l c) (number_of (answer_of r)) l (lent c)
+entered_err e r told k m =
+    let p : _ = err_from_is_err_and r told in
+    let h : 1 ≤ refusal_number e = numbered e in
+    rw (p.1, p.2) (entered_refused k m (λ z. omega arith) refl)
 
 -- a call without an output that is done
 pub done : (s : State) {left : List ℕ} → left ≡ image s → Served (leaves Done s) Done left [] []

@@ -1,6 +1,7 @@
 // The product: the seven calls over the lent image. The crate tmavolice_c exports them for C.
 #![tactic(auto)]
 
+mod answers;
 mod entries;
 mod make;
 mod refusals;

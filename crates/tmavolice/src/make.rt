@@ -3,6 +3,8 @@ ghost use Rattle.std.specs.Prelude.{[]};
 ghost use Rattle.calls.specs.Calls.{make, enter};
 ghost use Rattle.tmavolice.specs.Outcome.{Outcome};
 
+use crate::answers::told;
+use crate::refusals::Refusal;
 use calls::{Answer, answer_number};
 use plan_reader::read_plan;
 use state::IMAGE_LENGTH;
@@ -12,12 +14,13 @@ pub fn tmavolice_make(image: &mut [u8], plan: &[u8], clock: u32) -> u64
     ensures { Outcome (enter image.old (make plan.now clock)) result image.new [] }
 {
     if image.len() != IMAGE_LENGTH {
-        return answer_number(Answer::Refused(8));
+        return told(Err(Refusal::NoValidImage));
     }
-    let x = read_plan(plan);
-    if x.reason != 0 {
-        return answer_number(Answer::Faulty(x.line, x.reason));
+    match read_plan(plan) {
+        Err(fault) => answer_number(Answer::Faulty(fault.line, fault.reason.number())),
+        Ok(records) => {
+            make_image(image.as_mut_array().unwrap(), &records, clock);
+            answer_number(Answer::Done)
+        }
     }
-    make_image(image, x.records, clock);
-    answer_number(Answer::Done)
 }

@@ -1,19 +1,21 @@
+use mathlib.Core.Path.{refl}
+use Prim.Native.Nat.{◌≤◌}
 use native.Mathlib.Omega.{arith}
 use Rattle.state.proofs.Inside.{session_fits_lem}
-use Rattle.state.proofs.ImageLaws.{ok_length}
+use Rattle.state.proofs.RowFound.{if_found}
 use Rattle.calls_requests.proofs.Stored.{Keeps, keeps_active, same_left, closed_left, kept_left}
 use Rattle.calls_requests.proofs.decision.change_session.Goals as goal
 
 pub remove_session-requires : goal.remove_session-requires
 remove_session-requires c =
     let p : _ = c.requires.valid in
-    (ok_length _ p.0, omega (arith, session_fits_lem _ _ p.1))
+    if_found (λ at. at ≤ 2016) p.1 (omega (arith, session_fits_lem c.args.b.now c.args.key refl))
 
 pub put_session-requires : goal.put_session-requires
 put_session-requires c =
     let keeps : Keeps c.args.change c.in-Opened.x = c.in-Opened.is in
     let f : _ = c.requires.placed c.in-Opened.x (keeps_active keeps) in
-    (ok_length _ c.requires.valid.0, (f.source_fits, f.found))
+    (f.source_fits, f.found)
 
 pub returns-in-Same : goal.returns-in-Same
 returns-in-Same c =

@@ -16,5 +16,6 @@ pub returns : goal.returns
 unfolding reply_of
 returns c =
     λ s.
-    reply_served _ _ _ _ _ _ (omega arith) c.put_reply_frame-n.ensures.0 c.args.on c.put_reply_frame-n.ensures.1
-    c.answer_of.ensures s
+    rw (← c.octet.ensures)
+    (reply_served _ _ _ _ _ _ (omega arith) c.put_reply_frame-n.ensures.0 c.args.on c.put_reply_frame-n.ensures.1
+    c.answer_of.ensures s)

@@ -1,11 +1,10 @@
 use mathlib.Core.Path.{◌∙◌}
-use native.Mathlib.Omega.{arith}
 use Rattle.codec.specs.declared.Read.{Read}
 use Rattle.codec.specs.FrameSet.{pdu_of}
 use Rattle.codec.specs.Request.{copied}
 use Rattle.codec.proofs.Said.{count_right}
 use Rattle.state.proofs.Answers.{machine_found}
-use Rattle.state.proofs.Inside.{session_fits_lem}
+use Rattle.state.proofs.Inside.{session_inside}
 use Rattle.calls_requests.proofs.Arrivals.{kind_is, key_is, read_is}
 use Rattle.calls_requests.proofs.Decisions.{own_right, change_placed, decision_replied}
 use Rattle.calls_requests.proofs.Ways.{reply_room, answers_served}
@@ -19,12 +18,9 @@ read_behind-read-requires c =
 pub key-own-requires : goal.key-own-requires
 key-own-requires c = c.requires.known.0.source_fits
 
-pub session_at-row-requires : goal.session_at-row-requires
-session_at-row-requires c = c.requires.known.0.long
-
 pub machine_at-m-requires : goal.machine_at-m-requires
 machine_at-m-requires c =
-    omega (arith, session_fits_lem _ _ c.session_at-row.ensures, c.requires.known.0.long)
+    session_inside _ c.requires.known.0.long _ c.session_at-row.ensures
 
 pub decides-d-requires : goal.decides-d-requires
 decides-d-requires c =

@@ -7,7 +7,7 @@ use Rattle.calls_requests.proofs.request.serve_request.Goals as goal
 pub allows-requires : goal.allows-requires
 allows-requires c =
     let k : _ = c.requires.0 in
-    rw c.wide.ensures.0 (k.long, (k.flow_some, k.flow_fits))
+    rw c.wide.ensures.0 (k.flow_some, k.flow_fits)
 
 pub returns-then-frame-a : goal.returns-then-frame-a
 returns-then-frame-a c =

@@ -6,13 +6,10 @@ use Rattle.calls_serving.proofs.data.serve_data.Goals as goal
 pub key-requires : goal.key-requires
 key-requires c = c.requires.0.source_fits
 
-pub machine_of-m-requires : goal.machine_of-m-requires
-machine_of-m-requires c = c.requires.0.long
-
 pub data_action-act-requires : goal.data_action-act-requires
 data_action-act-requires c =
     let k : _ = c.requires.0 in
-    (k.long, (k.flow_some, k.flow_fits))
+    (k.flow_some, k.flow_fits)
 
 pub put_looped-requires : goal.put_looped-requires
 put_looped-requires c =

@@ -4,4 +4,4 @@ use Rattle.codec.proofs.requests.first_tlv.Goals as goal
 
 pub returns : goal.returns
 unfolding offset_of octet
-returns c = (rw c.octet_at.ensures, omega arith)
+returns c = (omega arith, omega arith)

@@ -4,8 +4,8 @@ use Rattle.codec_replies.proofs.reply.flags_of.Goals as goal
 
 pub returns-then-copied : goal.returns-then-copied
 unfolding flags_by
-returns-then-copied c = rw (c.if-copied.true, ← c.active_flags.ensures.0)
+returns-then-copied c = rw (c.if-copied.true, ← c.active_flags-flags.ensures.0)
 
-pub returns : goal.returns
+pub returns-else-copied : goal.returns-else-copied
 unfolding flags_by
-returns c = rw (c.if-copied.false, add-zero) c.active_flags-2.ensures.0
+returns-else-copied c = rw (c.if-copied.false, add-zero) c.active_flags-flags.ensures.0

@@ -1,25 +1,35 @@
+use Rattle.std.proofs.Common.{◌≡◌, length, get_or, arith}
 use borrow.Author.Tests.{eq-eqb, ne_eqb}
 use Rattle.codec_tlvs.specs.Tlv.{is_unknown, subtype}
 use Rattle.codec_tlvs.proofs.kinds.is_unknown.Goals as goal
 
-pub returns-then-kind-eq0 : goal.returns-then-kind-eq0
+pub returns-in-0 : goal.returns-in-0
 unfolding is_unknown
-returns-then-kind-eq0 c = rw c.if-kind-eq0.true
+returns-in-0 c = rw c.in-0.is
 
-pub returns-then-kind-ne-TIMER : goal.returns-then-kind-ne-TIMER
+pub returns-in-empty : goal.returns-in-empty
 unfolding is_unknown
-returns-then-kind-ne-TIMER c = simp (ne_eqb _ _ c.if-kind-eq0.false, ne_eqb _ _ c.if-kind-ne-TIMER.true)
+returns-in-empty c =
+    let none : length c.args.value.now ≡ 0 = omega arith in
+    rw c.in-37.is (simp (eq-eqb _ _ none))
 
-pub returns-then-value-eq0 : goal.returns-then-value-eq0
-unfolding is_unknown
-returns-then-value-eq0 c = simp (eq-eqb _ _ c.if-kind-ne-TIMER.false, eq-eqb _ _ c.if-value-eq0.true)
-
-pub returns-then-value-eq-TIMER_SUBTYPE : goal.returns-then-value-eq-TIMER_SUBTYPE
+pub returns-in-1 : goal.returns-in-1
 unfolding is_unknown subtype
-returns-then-value-eq-TIMER_SUBTYPE c =
-    simp (eq-eqb _ _ c.if-kind-ne-TIMER.false, ne_eqb _ _ c.if-value-eq0.false, eq-eqb _ _ c.if-value-eq-TIMER_SUBTYPE.true)
+returns-in-1 c =
+    let some : length c.args.value.now ≡ 0 → ⊥ = λ z. absurd (omega arith) in
+    let first : get_or c.args.value.now 0 0 ≡ 1 = omega arith in
+    rw c.in-37.is (simp (ne_eqb _ _ some, eq-eqb _ _ first))
 
-pub returns : goal.returns
+pub returns-in-len1-up : goal.returns-in-len1-up
 unfolding is_unknown subtype
-returns c =
-    simp (eq-eqb _ _ c.if-kind-ne-TIMER.false, ne_eqb _ _ c.if-value-eq0.false, ne_eqb _ _ c.if-value-eq-TIMER_SUBTYPE.false)
+returns-in-len1-up c =
+    let some : length c.args.value.now ≡ 0 → ⊥ = λ z. absurd (omega arith) in
+    let first : get_or c.args.value.now 0 0 ≡ 1 → ⊥ = λ z. absurd (omega arith) in
+    rw c.in-37.is (simp (ne_eqb _ _ some, ne_eqb _ _ first))
+
+pub returns-in_default : goal.returns-in_default
+unfolding is_unknown
+returns-in_default c =
+    let no_end : c.args.kind ≡ 0 → ⊥ = λ z. absurd (omega arith) in
+    let other : c.args.kind ≡ 37 → ⊥ = λ z. absurd (omega arith) in
+    simp (ne_eqb _ _ no_end, ne_eqb _ _ other)

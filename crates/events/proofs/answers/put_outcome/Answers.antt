@@ -1,49 +1,9 @@
-use mathlib.Core.Path.{◌≡◌}
-use mathlib.Core.List.{[]}
-use Prim.Native.Nat.{ℕ, ◌+◌, ◌≤◌}
 use native.Mathlib.Omega.{arith}
-use lib.ListN.{get_or-eq_default}
-use Rattle.octets.specs.Text.{text}
-use Rattle.events.specs.AnswerLine.{outcomes}
+use Rattle.events.proofs.Ends.{outcome_long}
 use Rattle.events.proofs.answers.put_outcome.Goals as goal
 
-pub returns-in-0 : goal.returns-in-0
-unfolding outcomes text
-returns-in-0 c = rw c.in-0.is c.put_word.ensures
+pub put_word-requires : goal.put_word-requires
+put_word-requires c = rw c.word_of.ensures (omega (arith, outcome_long c.args.outcome))
 
-pub returns-in-1 : goal.returns-in-1
-unfolding outcomes text
-returns-in-1 c = rw c.in-1.is c.put_word-in-1.ensures
-
-pub returns-in-2 : goal.returns-in-2
-unfolding outcomes text
-returns-in-2 c = rw c.in-2.is c.put_word-in-2.ensures
-
-pub returns-in-3 : goal.returns-in-3
-unfolding outcomes text
-returns-in-3 c = rw c.in-3.is c.put_word-in-3.ensures
-
-pub returns-in-4 : goal.returns-in-4
-unfolding outcomes text
-returns-in-4 c = rw c.in-4.is c.put_word-in-4.ensures
-
-pub returns-in-5 : goal.returns-in-5
-unfolding outcomes text
-returns-in-5 c = rw c.in-5.is c.put_word-in-5.ensures
-
-pub returns-in-6 : goal.returns-in-6
-unfolding outcomes text
-returns-in-6 c = rw c.in-6.is c.put_word-in-6.ensures
-
--- a number that is not the next one either
-above : {n : ℕ} (k : ℕ) → k ≤ n → (n ≡ k → ⊥) → k + 1 ≤ n
-above k h e = omega arith
-
-pub returns-in-7-to-255 : goal.returns-in-7-to-255
-unfolding outcomes text
-returns-in-7-to-255 c =
-    let n : ℕ = c.args.outcome in
-    let two : 2 ≤ n = above 1 (above 0 (omega arith) c.in-7-to-255.in-7-to-255-own.rest.0.0.0.0.0.0.1) c.in-7-to-255.in-7-to-255-own.rest.0.0.0.0.0.1 in
-    let four : 4 ≤ n = above 3 (above 2 two c.in-7-to-255.in-7-to-255-own.rest.0.0.0.0.1) c.in-7-to-255.in-7-to-255-own.rest.0.0.0.1 in
-    let seven : 7 ≤ n = above 6 (above 5 (above 4 four c.in-7-to-255.in-7-to-255-own.rest.0.0.1) c.in-7-to-255.in-7-to-255-own.rest.0.1) c.in-7-to-255.in-7-to-255-own.rest.1 in
-    rw (get_or-eq_default outcomes [] {n = n} seven) c.put_word-in-7-to-255.ensures
+pub returns : goal.returns
+returns c = rw (c.word_of.ensures) at c.put_word.ensures

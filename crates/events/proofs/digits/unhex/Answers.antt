@@ -8,7 +8,7 @@ use Rattle.events.proofs.HexDigits.{digit_at, unhexed_length, unhexed_turn}
 use Rattle.events.proofs.digits.unhex.Goals as goal
 
 pub loop-i-init : goal.loop-i-init
-loop-i-init c = (omega arith, refl, refl)
+loop-i-init c = (refl, refl)
 
 pub value_of-requires : goal.value_of-requires
 value_of-requires c =
@@ -25,11 +25,11 @@ loop-i-preserved c =
     let high : _ = c.value_of.ensures.0 in
     let low : _ = c.value_of-in-loop-i.ensures.0 in
     let turn : _ = unhexed_turn a.f.now a.room.now l.i (omega arith) (omega arith) high low in
-    (omega arith, simp length-set l.invariant.1, rw l.invariant.2 turn)
+    (simp length-set l.invariant.0, rw l.invariant.1 turn)
 
 pub returns : goal.returns
 returns c =
     let f : _ = c.args.f.now in
     let l : _ = c.loop-i in
     let e : l.i ≡ length (unhexed f) = omega (arith, unhexed_length f) in
-    l.invariant.2 ∙ rw (e, take-length)
+    l.invariant.1 ∙ rw (e, take-length)

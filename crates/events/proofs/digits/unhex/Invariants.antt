@@ -1,13 +1,9 @@
 use mathlib.Core.Path.{◌≡◌}
 use mathlib.Core.List.{◌++◌}
-use Prim.Native.Nat.{◌-◌, ◌/◌, ◌≤◌}
 use lib.ListN.{length, take, drop}
 use Rattle.events.specs.Event.{unhexed}
 use Rattle.events.proofs.digits.unhex.Given as goal
 
 abbrev pub invariant-loop-i : goal.invariant-loop-i
 invariant-loop-i l =
-    (l.i ≤ length l.f / 2) × (length l.room ≡ length l.initial.room) × (l.room ≡ take l.i (unhexed l.f) ++ drop l.i l.initial.room)
-
-abbrev pub decreases-loop-i : goal.decreases-loop-i
-decreases-loop-i l = l.n - l.i
+    (length l.room ≡ length l.initial.room) × (l.room ≡ take l.i (unhexed l.f) ++ drop l.i l.initial.room)

@@ -14,12 +14,12 @@ returns-then-x-le57 c =
     let x : ℕ = c.args.x in
     (simp (lt-ltb x 58 (omega arith)), omega arith)
 
-pub overflow_sub-result-2 : goal.overflow_sub-result-2
-overflow_sub-result-2 c = omega (arith, a_letter c.args.x c.requires (omega arith))
+pub overflow_sub-result-else-x-le57 : goal.overflow_sub-result-else-x-le57
+overflow_sub-result-else-x-le57 c = omega (arith, a_letter c.args.x c.requires (omega arith))
 
-pub returns : goal.returns
+pub returns-else-x-le57 : goal.returns-else-x-le57
 unfolding digit
-returns c =
+returns-else-x-le57 c =
     let x : ℕ = c.args.x in
     let l : _ = a_letter x c.requires (omega arith) in
     (simp (le-ltb x 58 (omega arith), le-ltb x 97 (omega arith)), omega arith)

@@ -24,16 +24,16 @@ pub unhex-requires : goal.unhex-requires
 unhex-requires c =
     let a : _ = c.args in
     let long : length a.room.now ≡ 2050 = search rules in
-    (sym c.all_digits.ensures ∙ c.if-all_digits.true, omega arith)
+    (sym c.all_digits.ensures ∙ c.if-not-all_digits.false, omega arith)
 
-pub returns-then-all_digits : goal.returns-then-all_digits
+pub returns-then-not-all_digits : goal.returns-then-not-all_digits
 unfolding text
-returns-then-all_digits c =
-    digits _ _ (sym c.same_octets.ensures ∙ c.if-same_octets.false) c.if-f-lt2.false c.if-f-ne0.false
-    (sym c.all_digits.ensures ∙ c.if-all_digits.true) c.unhex.ensures
+returns-then-not-all_digits c =
+    no_digits _ _ (sym c.same_octets.ensures ∙ c.if-same_octets.false)
+    (sym c.all_digits.ensures ∙ c.if-not-all_digits.true)
 
 pub returns : goal.returns
 unfolding text
 returns c =
-    no_digits _ _ (sym c.same_octets.ensures ∙ c.if-same_octets.false)
-    (sym c.all_digits.ensures ∙ c.if-all_digits.false)
+    digits _ _ (sym c.same_octets.ensures ∙ c.if-same_octets.false) c.if-f-lt2.false c.if-f-ne0.false
+    (sym c.all_digits.ensures ∙ c.if-not-all_digits.false) c.unhex.ensures

@@ -1,42 +1,50 @@
-use mathlib.Core.Path.{sym, ◌∙◌}
+use native.Mathlib.Omega.{arith}
 use Rattle.octets.specs.Text.{text}
-use Rattle.events.specs.Read.{logged, numbered}
+use Rattle.plan_lines.proofs.Spelt.{reads_same}
+use Rattle.events.proofs.LogWords.{other_word}
 use Rattle.events.proofs.lines.by_number.Goals as goal
 
-pub returns-then-same_octets : goal.returns-then-same_octets
-unfolding logged numbered text
-returns-then-same_octets c = rw (sym c.same_octets.ensures ∙ c.if-same_octets.true)
+pub returns-in_default : goal.returns-in_default
+unfolding text
+returns-in_default c =
+    other_word _ _ (grind (arith, reads_same)) (grind (arith, reads_same)) (grind (arith, reads_same)) (grind (arith, reads_same))
 
-pub returns-then-same_octets-2 : goal.returns-then-same_octets-2
-unfolding logged numbered text
-returns-then-same_octets-2 c =
-    rw (sym c.same_octets.ensures ∙ c.if-same_octets.false, sym c.same_octets-2.ensures ∙ c.if-same_octets-2.true)
+pub returns-in_default-5 : goal.returns-in_default-5
+unfolding text
+returns-in_default-5 c =
+    other_word _ _ (grind (arith, reads_same)) (grind (arith, reads_same)) (grind (arith, reads_same)) (grind (arith, reads_same))
 
-pub returns-then-same_octets-3 : goal.returns-then-same_octets-3
-unfolding logged numbered text
-returns-then-same_octets-3 c =
-    rw (
-      sym c.same_octets.ensures ∙ c.if-same_octets.false,
-      sym c.same_octets-2.ensures ∙ c.if-same_octets-2.false,
-      sym c.same_octets-3.ensures ∙ c.if-same_octets-3.true,
-    )
+pub returns-in_default-10 : goal.returns-in_default-10
+unfolding text
+returns-in_default-10 c =
+    other_word _ _ (grind (arith, reads_same)) (grind (arith, reads_same)) (grind (arith, reads_same)) (grind (arith, reads_same))
 
-pub returns-then-same_octets-4 : goal.returns-then-same_octets-4
-unfolding logged numbered text
-returns-then-same_octets-4 c =
-    rw (
-      sym c.same_octets.ensures ∙ c.if-same_octets.false,
-      sym c.same_octets-2.ensures ∙ c.if-same_octets-2.false,
-      sym c.same_octets-3.ensures ∙ c.if-same_octets-3.false,
-      sym c.same_octets-4.ensures ∙ c.if-same_octets-4.true,
-    )
+pub returns-in_default-11 : goal.returns-in_default-11
+unfolding text
+returns-in_default-11 c =
+    other_word _ _ (grind (arith, reads_same)) (grind (arith, reads_same)) (grind (arith, reads_same)) (grind (arith, reads_same))
 
-pub returns : goal.returns
-unfolding logged numbered text
-returns c =
-    rw (
-      sym c.same_octets.ensures ∙ c.if-same_octets.false,
-      sym c.same_octets-2.ensures ∙ c.if-same_octets-2.false,
-      sym c.same_octets-3.ensures ∙ c.if-same_octets-3.false,
-      sym c.same_octets-4.ensures ∙ c.if-same_octets-4.false,
-    )
+pub returns-in_default-17 : goal.returns-in_default-17
+unfolding text
+returns-in_default-17 c =
+    other_word _ _ (grind (arith, reads_same)) (grind (arith, reads_same)) (grind (arith, reads_same)) (grind (arith, reads_same))
+
+pub returns-in_default-18 : goal.returns-in_default-18
+unfolding text
+returns-in_default-18 c =
+    other_word _ _ (grind (arith, reads_same)) (grind (arith, reads_same)) (grind (arith, reads_same)) (grind (arith, reads_same))
+
+pub returns-in_default-25 : goal.returns-in_default-25
+unfolding text
+returns-in_default-25 c =
+    other_word _ _ (grind (arith, reads_same)) (grind (arith, reads_same)) (grind (arith, reads_same)) (grind (arith, reads_same))
+
+pub returns-in_default-26 : goal.returns-in_default-26
+unfolding text
+returns-in_default-26 c =
+    other_word _ _ (grind (arith, reads_same)) (grind (arith, reads_same)) (grind (arith, reads_same)) (grind (arith, reads_same))
+
+pub returns-in_default-27 : goal.returns-in_default-27
+unfolding text
+returns-in_default-27 c =
+    other_word _ _ (grind (arith, reads_same)) (grind (arith, reads_same)) (grind (arith, reads_same)) (grind (arith, reads_same))

@@ -20,13 +20,13 @@ returns-then-end-buffer c =
     let e : _ = c.end_of-end.ensures in
     served_all _ _ _ _ _ c.loop-out.invariant.0 e.0 e.1.0 c.if-end-buffer.true
 
-pub step-at-requires : goal.step-at-requires
-step-at-requires c =
+pub step-requires : goal.step-requires
+step-requires c =
     let l : _ = c.loop-out in
     (l.invariant.1.1 ∙ c.requires.1.1, omega (arith, c.loop-out-test.true, l.invariant.0.room))
 
-pub overflow_add-number : goal.overflow_add-number
-overflow_add-number c =
+pub overflow_add-turn : goal.overflow_add-turn
+overflow_add-turn c =
     let l : _ = c.loop-out in
     omega (arith, l.invariant.0.few, c.requires.1.0, c.if-end-buffer.false, c.end_of-end.ensures)
 
@@ -35,7 +35,7 @@ loop-out-preserved c =
     let e : _ = c.end_of-end.ensures in
     let l : _ = c.loop-out in (
       serving_turn _ _ _ _ _ l.invariant.0 e.0 e.1.0 (omega (arith, e.1.1, c.if-end-buffer.false))
-          c.loop-out-test.true c.step-at.ensures (search rules),
+          c.loop-out-test.true c.step.ensures (search rules),
       (search rules, search rules),
     )
 

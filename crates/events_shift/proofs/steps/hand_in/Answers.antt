@@ -10,5 +10,5 @@ pub returns : goal.returns
 unfolding entered event_in lent_to
 returns c =
     let a : _ = c.args in
-    rw (sym (take_least a.n _ a.frame.now c.least-end.ensures))
+    rw (sym (take_least a.n _ a.frame.now c.min-end.ensures))
     (made_lent (Frame a.port a.side a.n) refl c.tmavolice_frame.ensures (search rules))

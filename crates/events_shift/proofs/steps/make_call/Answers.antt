@@ -1,15 +1,10 @@
 use mathlib.Core.Path.{refl}
 use borrow.Author.Rules.{rules}
-use Rattle.calls.specs.Answer.{packed, number_of}
 use Rattle.events.specs.declared.Logged.TheVariants.{Tick, Allow, Prohibit, Notice, Restart}
 use Rattle.events_shift.specs.Step.{entered}
 use Rattle.events_shift.specs.Held.{event_in, lent_to}
 use Rattle.events_shift.proofs.StepLaws.{made_lent, made_silent}
 use Rattle.events_shift.proofs.steps.make_call.Goals as goal
-
-pub returns-in-Unreadable : goal.returns-in-Unreadable
-unfolding entered event_in lent_to number_of packed
-returns-in-Unreadable c = rw c.in-Unreadable.is (record { answered = refl; stored = refl; sent = refl; lent = refl })
 
 pub returns-in-Frame : goal.returns-in-Frame
 returns-in-Frame c = rw c.in-Frame.is c.hand_in.ensures

@@ -18,5 +18,5 @@ returns c =
     put_as c.put_answer.ensures
     (ap (λ (g : Got). answer_line a.number a.word.now g)
     (says_answered a.answer _ a.lent.now c.if-outcome-eq0.false
-    c.least-n.ensures))
+    c.min-n.ensures))
     refl

@@ -1,19 +1,16 @@
-use Rattle.std.proofs.Common.{eq-eqb, ne_eqb}
+use Rattle.std.proofs.Common.{arith}
+use Rattle.std.proofs.lemmas.Bool.Decides.{nat_tests}
 use Rattle.machine.specs.Management.{allowed_after}
 use Rattle.machine.proofs.management.allowed_after.Goals as goal
 
-pub returns-then-action-eq-FORBID : goal.returns-then-action-eq-FORBID
+pub returns-in-0 : goal.returns-in-0
 unfolding allowed_after
-returns-then-action-eq-FORBID c = search (eq-eqb, ne_eqb)
+returns-in-0 c = rw c.in-0.is
 
-pub returns-then-action-eq-WITHDRAW : goal.returns-then-action-eq-WITHDRAW
+pub returns-in-8 : goal.returns-in-8
 unfolding allowed_after
-returns-then-action-eq-WITHDRAW c = search (eq-eqb, ne_eqb)
+returns-in-8 c = rw c.in-8.is
 
-pub returns-then-action-eq-NOTHING : goal.returns-then-action-eq-NOTHING
+pub returns-in_default : goal.returns-in_default
 unfolding allowed_after
-returns-then-action-eq-NOTHING c = search (eq-eqb, ne_eqb)
-
-pub returns : goal.returns
-unfolding allowed_after
-returns c = search (eq-eqb, ne_eqb)
+returns-in_default c = grind (arith, nat_tests)

@@ -1,19 +1,20 @@
+use Rattle.std.proofs.Common.{arith}
+use Rattle.std.proofs.lemmas.Bool.Decides.{nat_tests}
 use Rattle.machine.specs.Management.{closed_by}
-use Rattle.std.proofs.Common.{eq-eqb, ne_eqb}
 use Rattle.machine.proofs.management.closed_by.Goals as goal
 
-pub returns-then-action-eq-NOTHING : goal.returns-then-action-eq-NOTHING
+pub returns-in-0 : goal.returns-in-0
 unfolding closed_by
-returns-then-action-eq-NOTHING c = rw (eq-eqb _ _ c.if-action-eq-NOTHING.true)
+returns-in-0 c = rw c.in-0.is
 
-pub returns-then-action-eq-EXPIRE : goal.returns-then-action-eq-EXPIRE
+pub returns-in-11 : goal.returns-in-11
 unfolding closed_by
-returns-then-action-eq-EXPIRE c = rw (ne_eqb _ _ c.if-action-eq-NOTHING.false, eq-eqb _ _ c.if-action-eq-EXPIRE.true) c.owed.ensures
+returns-in-11 c = rw c.in-11.is c.owed.ensures
 
-pub returns-then-action-eq-WITHDRAW : goal.returns-then-action-eq-WITHDRAW
+pub returns-in-10 : goal.returns-in-10
 unfolding closed_by
-returns-then-action-eq-WITHDRAW c = rw (ne_eqb _ _ c.if-action-eq-NOTHING.false, ne_eqb _ _ c.if-action-eq-EXPIRE.false, eq-eqb _ _ c.if-action-eq-WITHDRAW.true) c.owed-then-action-eq-WITHDRAW.ensures
+returns-in-10 c = rw c.in-10.is c.owed-in-10.ensures
 
-pub returns : goal.returns
+pub returns-in_default : goal.returns-in_default
 unfolding closed_by
-returns c = rw (ne_eqb _ _ c.if-action-eq-NOTHING.false, ne_eqb _ _ c.if-action-eq-EXPIRE.false, ne_eqb _ _ c.if-action-eq-WITHDRAW.false) c.owed-2.ensures
+returns-in_default c = rw c.owed-in_default.ensures (grind (arith, nat_tests))

@@ -1,20 +1,20 @@
 use Rattle.machine.specs.Machine.{admitted}
-use Rattle.std.proofs.Common.{eq-eqb, ne_eqb}
-use Rattle.machine.proofs.Laws.{seconds_good, seconds_none, seconds_many}
+use Rattle.std.proofs.Common.{sym, ◌∙◌}
+use Rattle.std.proofs.Common.{arith}
+use Rattle.machine.proofs.Laws.{seconds_few}
 use Rattle.machine.proofs.request.admitted.Goals as goal
 
-pub returns-then-seconds-lt1 : goal.returns-then-seconds-lt1
+pub returns-then-not-good_seconds : goal.returns-then-not-good_seconds
 unfolding admitted
-returns-then-seconds-lt1 c = rw (seconds_none _ c.if-seconds-lt1.true) c.answered.ensures
+returns-then-not-good_seconds c = rw (sym c.good_seconds.ensures ∙ c.if-not-good_seconds.true) c.answered.ensures
 
-pub returns-then-seconds-gt-MOST_SECONDS : goal.returns-then-seconds-gt-MOST_SECONDS
+pub returns-then-full : goal.returns-then-full
 unfolding admitted
-returns-then-seconds-gt-MOST_SECONDS c = rw (seconds_many _ c.if-seconds-gt-MOST_SECONDS.true) c.answered-then-seconds-gt-MOST_SECONDS.ensures
+returns-then-full c = rw (sym c.good_seconds.ensures ∙ c.if-not-good_seconds.false, c.if-full.true) c.answered-then-full.ensures
 
-pub returns-then-full-ne0 : goal.returns-then-full-ne0
-unfolding admitted
-returns-then-full-ne0 c = rw (seconds_good _ c.if-seconds-lt1.false c.if-seconds-gt-MOST_SECONDS.false, ne_eqb _ _ c.if-full-ne0.true) c.answered-then-full-ne0.ensures
+pub overflow_mul-seconds : goal.overflow_mul-seconds
+overflow_mul-seconds c = omega (arith, seconds_few _ (sym c.good_seconds.ensures ∙ c.if-not-good_seconds.false))
 
 pub returns : goal.returns
 unfolding admitted
-returns c = rw (seconds_good _ c.if-seconds-lt1.false c.if-seconds-gt-MOST_SECONDS.false, eq-eqb _ _ c.if-full-ne0.false, c.lasting.ensures)
+returns c = rw (sym c.good_seconds.ensures ∙ c.if-not-good_seconds.false, c.if-full.false, c.lasting.ensures)

@@ -1,27 +1,28 @@
+use Rattle.std.proofs.Common.{arith}
+use Rattle.std.proofs.lemmas.Bool.Decides.{nat_tests}
 use Rattle.machine.specs.Machine.{decided}
-use Rattle.std.proofs.Common.{eq-eqb, ne_eqb}
 use Rattle.machine.proofs.request.decide.Goals as goal
 
-pub returns-then-action-eq-ADMIT : goal.returns-then-action-eq-ADMIT
+pub returns-in-3 : goal.returns-in-3
 unfolding decided
-returns-then-action-eq-ADMIT c = rw (eq-eqb _ _ c.if-action-eq-ADMIT.true) c.admitted.ensures
+returns-in-3 c = rw c.in-3.is c.admitted.ensures
 
-pub returns-then-action-eq-RESTART : goal.returns-then-action-eq-RESTART
+pub returns-in-6 : goal.returns-in-6
 unfolding decided
-returns-then-action-eq-RESTART c = rw (ne_eqb _ _ c.if-action-eq-ADMIT.false, eq-eqb _ _ c.if-action-eq-RESTART.true) c.restarted.ensures
+returns-in-6 c = rw c.in-6.is c.restarted.ensures
 
-pub returns-then-action-eq-ALREADY : goal.returns-then-action-eq-ALREADY
+pub returns-in-5 : goal.returns-in-5
 unfolding decided
-returns-then-action-eq-ALREADY c = rw (ne_eqb _ _ c.if-action-eq-ADMIT.false, ne_eqb _ _ c.if-action-eq-RESTART.false, eq-eqb _ _ c.if-action-eq-ALREADY.true) c.answered.ensures
+returns-in-5 c = rw c.in-5.is c.answered.ensures
 
-pub returns-then-action-eq-CLOSE : goal.returns-then-action-eq-CLOSE
+pub returns-in-7 : goal.returns-in-7
 unfolding decided
-returns-then-action-eq-CLOSE c = rw (ne_eqb _ _ c.if-action-eq-ADMIT.false, ne_eqb _ _ c.if-action-eq-RESTART.false, ne_eqb _ _ c.if-action-eq-ALREADY.false, eq-eqb _ _ c.if-action-eq-CLOSE.true) c.closed.ensures
+returns-in-7 c = rw c.in-7.is c.closed.ensures
 
-pub returns-then-action-eq-REPORT : goal.returns-then-action-eq-REPORT
+pub returns-in-4 : goal.returns-in-4
 unfolding decided
-returns-then-action-eq-REPORT c = rw (ne_eqb _ _ c.if-action-eq-ADMIT.false, ne_eqb _ _ c.if-action-eq-RESTART.false, ne_eqb _ _ c.if-action-eq-ALREADY.false, ne_eqb _ _ c.if-action-eq-CLOSE.false, eq-eqb _ _ c.if-action-eq-REPORT.true) c.answered-then-action-eq-REPORT.ensures
+returns-in-4 c = rw c.in-4.is c.answered-in-4.ensures
 
-pub returns : goal.returns
+pub returns-in_default : goal.returns-in_default
 unfolding decided
-returns c = rw (ne_eqb _ _ c.if-action-eq-ADMIT.false, ne_eqb _ _ c.if-action-eq-RESTART.false, ne_eqb _ _ c.if-action-eq-ALREADY.false, ne_eqb _ _ c.if-action-eq-CLOSE.false, ne_eqb _ _ c.if-action-eq-REPORT.false) c.answered-2.ensures
+returns-in_default c = rw c.answered-in_default.ensures (grind (arith, nat_tests))

@@ -1,20 +1,20 @@
 use Rattle.machine.specs.Machine.{refreshed}
-use Rattle.machine.proofs.Laws.{seconds_good, seconds_none, seconds_many}
 use Rattle.std.proofs.Common.{sym, ◌∙◌}
+use Rattle.std.proofs.Common.{arith}
+use Rattle.machine.proofs.Laws.{seconds_few}
 use Rattle.machine.proofs.request.refreshed.Goals as goal
 
-pub returns-then-seconds-lt1 : goal.returns-then-seconds-lt1
+pub returns-then-not-same_mp : goal.returns-then-not-same_mp
 unfolding refreshed
-returns-then-seconds-lt1 c = rw (sym c.same_mp.ensures ∙ c.if-same_mp.true, seconds_none _ c.if-seconds-lt1.true) c.answered.ensures
+returns-then-not-same_mp c = rw (sym c.same_mp.ensures ∙ c.if-not-same_mp.true) c.answered.ensures
 
-pub returns-then-seconds-gt-MOST_SECONDS : goal.returns-then-seconds-gt-MOST_SECONDS
+pub returns-then-not-good_seconds : goal.returns-then-not-good_seconds
 unfolding refreshed
-returns-then-seconds-gt-MOST_SECONDS c = rw (sym c.same_mp.ensures ∙ c.if-same_mp.true, seconds_many _ c.if-seconds-gt-MOST_SECONDS.true) c.answered-then-seconds-gt-MOST_SECONDS.ensures
+returns-then-not-good_seconds c = rw (sym c.same_mp.ensures ∙ c.if-not-same_mp.false, sym c.good_seconds.ensures ∙ c.if-not-good_seconds.true) c.answered-then-not-good_seconds.ensures
 
-pub returns-then-same_mp : goal.returns-then-same_mp
-unfolding refreshed
-returns-then-same_mp c = rw (sym c.same_mp.ensures ∙ c.if-same_mp.true, seconds_good _ c.if-seconds-lt1.false c.if-seconds-gt-MOST_SECONDS.false, c.lasting.ensures)
+pub overflow_mul-seconds : goal.overflow_mul-seconds
+overflow_mul-seconds c = omega (arith, seconds_few _ (sym c.good_seconds.ensures ∙ c.if-not-good_seconds.false))
 
 pub returns : goal.returns
 unfolding refreshed
-returns c = rw (sym c.same_mp.ensures ∙ c.if-same_mp.false) c.answered-2.ensures
+returns c = rw (sym c.same_mp.ensures ∙ c.if-not-same_mp.false, sym c.good_seconds.ensures ∙ c.if-not-good_seconds.false, c.lasting.ensures)

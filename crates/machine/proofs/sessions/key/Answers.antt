@@ -1,7 +1,6 @@
-use Rattle.std.proofs.Common.{refl}
 use Rattle.machine.specs.Machine.{key}
 use Rattle.machine.proofs.sessions.key.Goals as goal
 
 pub returns : goal.returns
 unfolding key
-returns c = refl
+returns c = rw c.from.ensures

@@ -1,5 +1,5 @@
-use Rattle.std.proofs.Common.{refl}
 use Rattle.machine.specs.Machine.{lasting}
+use Rattle.std.proofs.Common.{refl}
 use Rattle.machine.proofs.sessions.lasting.Goals as goal
 
 pub returns : goal.returns

@@ -1,7 +1,6 @@
-use Rattle.std.proofs.Common.{refl}
 use Rattle.machine.specs.Machine.{owed}
 use Rattle.machine.proofs.sessions.owed.Goals as goal
 
 pub returns : goal.returns
 unfolding owed
-returns c = refl
+returns c = rw c.octet.ensures

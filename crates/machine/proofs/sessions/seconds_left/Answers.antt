@@ -2,10 +2,6 @@ use Rattle.std.proofs.Common.{arith}
 use Rattle.machine.specs.Machine.{seconds_left}
 use Rattle.machine.proofs.sessions.seconds_left.Goals as goal
 
-pub returns-then-ms-eq0 : goal.returns-then-ms-eq0
-unfolding seconds_left
-returns-then-ms-eq0 c = omega arith
-
 pub returns : goal.returns
 unfolding seconds_left
 returns c = omega arith

@@ -1,15 +1,16 @@
+use Rattle.std.proofs.Common.{arith}
+use Rattle.std.proofs.lemmas.Bool.Decides.{nat_tests}
 use Rattle.machine.specs.Machine.{fate_of}
-use Rattle.std.proofs.Common.{eq-eqb, ne_eqb}
 use Rattle.machine.proofs.traffic.fate_of.Goals as goal
 
-pub returns-then-action-eq-FORWARD : goal.returns-then-action-eq-FORWARD
+pub returns-in-1 : goal.returns-in-1
 unfolding fate_of
-returns-then-action-eq-FORWARD c = rw (eq-eqb _ _ c.if-action-eq-FORWARD.true)
+returns-in-1 c = rw c.in-1.is
 
-pub returns-then-action-eq-TURN : goal.returns-then-action-eq-TURN
+pub returns-in-2 : goal.returns-in-2
 unfolding fate_of
-returns-then-action-eq-TURN c = rw (ne_eqb _ _ c.if-action-eq-FORWARD.false, eq-eqb _ _ c.if-action-eq-TURN.true) c.turned.ensures
+returns-in-2 c = rw c.in-2.is c.turned.ensures
 
-pub returns : goal.returns
+pub returns-in_default : goal.returns-in_default
 unfolding fate_of
-returns c = rw (ne_eqb _ _ c.if-action-eq-FORWARD.false, ne_eqb _ _ c.if-action-eq-TURN.false)
+returns-in_default c = grind (arith, nat_tests)

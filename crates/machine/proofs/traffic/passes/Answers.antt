@@ -5,6 +5,6 @@ pub returns-then-soam : goal.returns-then-soam
 unfolding passes
 returns-then-soam c = rw c.if-soam.true
 
-pub returns : goal.returns
+pub returns-else-soam : goal.returns-else-soam
 unfolding passes
-returns c = rw c.if-soam.false
+returns-else-soam c = rw c.if-soam.false

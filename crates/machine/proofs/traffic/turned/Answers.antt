@@ -10,10 +10,10 @@ pub returns-then-passes : goal.returns-then-passes
 unfolding turned
 returns-then-passes c = rw (c.in-Active.is, sym c.passes.ensures ∙ c.if-passes.true)
 
-pub returns-then-side-own : goal.returns-then-side-own
+pub returns-then-side-s : goal.returns-then-side-s
 unfolding turned
-returns-then-side-own c = rw (c.in-Active.is, sym c.passes.ensures ∙ c.if-passes.false, eq-eqb _ _ c.if-side-own.true)
+returns-then-side-s c = rw (c.in-Active.is, sym c.passes.ensures ∙ c.if-passes.false, eq-eqb _ _ c.if-side-s.true)
 
 pub returns : goal.returns
 unfolding turned
-returns c = rw (c.in-Active.is, sym c.passes.ensures ∙ c.if-passes.false, ne_eqb _ _ c.if-side-own.false)
+returns c = rw (c.in-Active.is, sym c.passes.ensures ∙ c.if-passes.false, ne_eqb _ _ c.if-side-s.false)

@@ -6,6 +6,6 @@ use Rattle.octets.proofs.low.low6.Goals as goal
 pub returns : goal.returns
 returns c =
     let a : _ = c.args in
-    let one : _ = c.wider.ensures.0 ∙ c.low4.ensures in
-    let two : _ = c.wider-2.ensures.0 ∙ c.low_pair.ensures.0 in
+    let one : _ = c.from.ensures ∙ c.low4.ensures in
+    let two : _ = c.from-2.ensures ∙ c.low2.ensures in
     (low_parts 4 2 a.at a.s.now one two, omega arith)

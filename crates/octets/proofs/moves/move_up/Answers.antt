@@ -1,18 +1,27 @@
-use mathlib.Core.Path.{◌≡◌, refl}
+use mathlib.Core.Path.{◌≡◌}
+use Prim.Native.Nat.{◌+◌, ◌-◌}
 use native.Mathlib.Omega.{arith}
-use lib.ListN.{length-set}
 use Rattle.octets.proofs.MoveLaws.{up_next, up_none}
 use Rattle.octets.proofs.moves.move_up.Goals as goal
 
-pub loop-i-init : goal.loop-i-init
-loop-i-init c = (omega arith, omega arith, refl, up_none _ _ _)
-
-pub loop-i-preserved : goal.loop-i-preserved
-loop-i-preserved c =
+pub loop-moved-init : goal.loop-moved-init
+loop-moved-init c =
     let a : _ = c.args in
-    let l : _ = c.loop-i in
-    let next : _ = up_next a.b.now a.by a.high l.i (omega arith) (omega arith) (omega arith) l.invariant.3 in
-    (omega arith, omega arith, simp length-set (omega arith), next)
+    let all : a.high - 0 ≡ a.high = omega arith in
+    (omega arith, rw all (up_none a.b.now a.by a.high))
+
+pub loop-moved-preserved : goal.loop-moved-preserved
+loop-moved-preserved c =
+    let a : _ = c.args in
+    let l : _ = c.loop-moved in
+    let top : a.high - 1 - l.moved ≡ a.high - l.moved - 1 = omega arith in
+    let left : a.high - (l.moved + 1) ≡ a.high - l.moved - 1 = omega arith in (
+      omega arith,
+      rw (top, left) (up_next a.b.now a.by a.high (a.high - l.moved) (omega arith) (omega arith) (omega arith) l.invariant.1),
+    )
 
 pub returns : goal.returns
-returns c = let e : c.loop-i.i ≡ c.args.low = omega arith in rw (← e) c.loop-i.invariant.3
+returns c =
+    let a : _ = c.args in
+    let end : a.high - c.loop-moved.moved ≡ a.low = omega arith in
+    rw end at c.loop-moved.invariant.1

@@ -4,4 +4,4 @@ use Rattle.octets.proofs.number.octets2.Goals as goal
 
 pub returns : goal.returns
 unfolding octets
-returns c = rw (div-one)
+returns c = rw (c.to_be_bytes.ensures, div-one)

@@ -1,8 +1,6 @@
-use native.Mathlib.Nat.{div-div-eq-div-mul}
-use Rattle.octets.specs.Octets.{low_octets}
-use Rattle.octets.proofs.Round.{octets_turned}
+use mathlib.Core.Path.{◌∙◌}
+use Rattle.octets.proofs.Words.{to_high_4}
 use Rattle.octets.proofs.number.octets4.Goals as goal
 
 pub returns : goal.returns
-unfolding low_octets
-returns c = simp div-div-eq-div-mul at (octets_turned 4 c.args.x c.swapped4-y.ensures.1)
+returns c = c.to_be_bytes.ensures ∙ to_high_4 c.args.x

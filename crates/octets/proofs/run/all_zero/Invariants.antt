@@ -1,13 +1,10 @@
 use mathlib.Core.Path.{◌≡◌}
 use mathlib.Core.Bool.{◌&&◌}
-use Prim.Native.Nat.{◌-◌, ◌*◌, ◌≤◌}
+use Prim.Native.Nat.{◌*◌}
 use lib.Dec.{eqb}
 use lib.ListN.{drop}
 use Rattle.octets.specs.Octets.{all_zero}
 use Rattle.octets.proofs.run.all_zero.Given as goal
 
 abbrev pub invariant-loop-i : goal.invariant-loop-i
-invariant-loop-i l = (l.i ≤ l.words) × ((eqb l.acc 0 && all_zero (drop (l.i * 8) l.s)) ≡ all_zero l.s)
-
-abbrev pub decreases-loop-i : goal.decreases-loop-i
-decreases-loop-i l = l.words - l.i
+invariant-loop-i l = (eqb l.acc 0 && all_zero (drop (l.i * 8) l.s)) ≡ all_zero l.s

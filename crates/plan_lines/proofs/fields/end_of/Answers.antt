@@ -1,25 +1,25 @@
-use mathlib.Core.Path.{refl, ◌∙◌}
+use mathlib.Core.Path.{◌≡◌, sym, ◌∙◌}
+use lib.ListN.{drop}
 use native.Mathlib.Omega.{arith}
-use Rattle.plan_lines.proofs.Parts.{end_here, end_on, end_end}
+use Rattle.std.specs.Prelude.{Some, None}
+use Rattle.plan_lines.specs.CappedLine.{first_in}
+use Rattle.plan_lines.proofs.Parts.{behind, end_found, end_none}
 use Rattle.plan_lines.proofs.fields.end_of.Goals as goal
 
-pub loop-i-init : goal.loop-i-init
-loop-i-init c = (refl, (omega arith, omega arith))
-
-pub returns-then-s-i : goal.returns-then-s-i
-returns-then-s-i c =
+pub overflow_add-result : goal.overflow_add-result
+overflow_add-result c =
     let a : _ = c.args in
-    let l : _ = c.loop-i in
-    (end_here a.s.now a.by l.i (omega arith) c.if-s-i.true ∙ l.invariant.0, (omega arith, omega arith))
+    let e : first_in a.by (drop a.from a.s.now) ≡ Some c.in-Some.n = rw (behind a.from a.s.now) at (sym c.first_of.ensures ∙ c.in-Some.is) in
+    omega (arith, (end_found a.by a.s.now a.from c.requires e).1.1)
 
-pub loop-i-preserved : goal.loop-i-preserved
-loop-i-preserved c =
+pub returns-in-Some : goal.returns-in-Some
+returns-in-Some c =
     let a : _ = c.args in
-    let l : _ = c.loop-i in
-    (end_on a.s.now a.by l.i (omega arith) c.if-s-i.false ∙ l.invariant.0, (omega arith, omega arith))
+    let e : first_in a.by (drop a.from a.s.now) ≡ Some c.in-Some.n = rw (behind a.from a.s.now) at (sym c.first_of.ensures ∙ c.in-Some.is) in
+    end_found a.by a.s.now a.from c.requires e
 
-pub returns : goal.returns
-returns c =
+pub returns-in-None : goal.returns-in-None
+returns-in-None c =
     let a : _ = c.args in
-    let l : _ = c.loop-i in
-    (end_end a.s.now a.by l.i (omega arith) ∙ l.invariant.0, (omega arith, omega arith))
+    let e : first_in a.by (drop a.from a.s.now) ≡ None = rw (behind a.from a.s.now) at (sym c.first_of.ensures ∙ c.in-None.is) in
+    end_none a.by a.s.now a.from c.requires e

@@ -19,10 +19,6 @@ with_mp-requires c =
     let q : _ = c.requires in
     (q.0, rw c.in-OfMp.is at q.2)
 
-pub returns-in-Unreadable : goal.returns-in-Unreadable
-unfolding said_added
-returns-in-Unreadable c = rw c.in-Unreadable.is c.requires.0
-
 pub returns-in-OfPort : goal.returns-in-OfPort
 unfolding said_added
 returns-in-OfPort c = rw c.in-OfPort.is c.with_port.ensures

@@ -1,10 +1,6 @@
 use Rattle.plan_reader.specs.ReadPlan.{said_reason}
 use Rattle.plan_reader.proofs.reasons.reason_of.Goals as goal
 
-pub returns-in-Unreadable : goal.returns-in-Unreadable
-unfolding said_reason
-returns-in-Unreadable c = rw c.in-Unreadable.is
-
 pub returns-in-OfPort : goal.returns-in-OfPort
 unfolding said_reason
 returns-in-OfPort c = rw c.in-OfPort.is c.port_reason.ensures

@@ -4,4 +4,4 @@ use Rattle.plan_reader.proofs.text.no_records.Goals as goal
 
 pub returns : goal.returns
 unfolding by_value filled empty_plan
-returns c = rw (c.no_flow-f.ensures, c.no_port-p.ensures)
+returns c = rw (c.no_flow.ensures, c.no_port.ensures)

@@ -1,34 +1,27 @@
-use mathlib.Core.Path.{◌≡◌}
-use native.Mathlib.Omega.{arith}
-use lib.ListN.{length}
-use borrow.Author.Rules.{rules}
-use Rattle.plan.proofs.HeldLaws.{mps_none, mps_one, mps_end}
+use Rattle.std.proofs.Common.{rules, arith, ap, ◌∙◌, ◌≡◌, length}
+use Rattle.plan.specs.Plan.{mp_count}
+use Rattle.plan.specs.declared.Flow.{Flow}
+use Rattle.plan_records.proofs.SeekLaws.{held_short, mps_turn, mps_end}
 use Rattle.plan_records.proofs.records.mps_held.Goals as goal
 
-pub loop-i-init : goal.loop-i-init
-loop-i-init c = (omega arith, omega arith, omega arith)
+pub loop-f-preserved : goal.loop-f-preserved
+loop-f-preserved c =
+    let t : _ = mps_turn c.held-f-items.result.now c.loop-f.f-index _ (omega arith) c.mps_in-n.ensures.0 in
+    record {
+      held = c.loop-f.invariant.held;
+      few = omega (arith, c.mps_in-n.ensures.1);
+      so_far = omega (arith, t, c.loop-f.invariant.so_far);
+    }
 
-pub returns-then-f-eq0 : goal.returns-then-f-eq0
-returns-then-f-eq0 c =
-    let a : _ = c.args in
-    let l : _ = c.loop-i in
-    let n : length a.flows ≡ 32 = search rules in
-    omega (arith, mps_none a.flows l.i _ (omega arith) c.if-f-eq0.true, l.invariant.2)
-
-pub overflow_add-n : goal.overflow_add-n
-overflow_add-n c = omega (arith, c.mps_in-n.ensures.1)
-
-pub loop-i-preserved : goal.loop-i-preserved
-loop-i-preserved c =
-    let a : _ = c.args in
-    let l : _ = c.loop-i in
-    let n : length a.flows ≡ 32 = search rules in
-    let t : _ = mps_one a.flows l.i _ (omega arith) c.if-f-eq0.false in
-    (omega arith, omega (arith, c.mps_in-n.ensures.1), omega (arith, t, c.mps_in-n.ensures.0, l.invariant.2))
+pub overflow_cast-result : goal.overflow_cast-result
+overflow_cast-result c =
+    let n : length c.args.flows.now ≡ 32 = search rules in
+    let h : _ = held_short (λ (f : Flow). f.number) c.args.flows.now in
+    let e : _ = ap length c.loop-f.invariant.held in
+    omega (arith, n, h, e, c.loop-f.invariant.few, c.loop-f.auto.f-index-end)
 
 pub returns : goal.returns
 returns c =
-    let a : _ = c.args in
-    let l : _ = c.loop-i in
-    let n : length a.flows ≡ 32 = search rules in
-    omega (arith, mps_end a.flows l.i (omega arith), l.invariant.2)
+    let e : _ = mps_end c.held-f-items.result.now c.loop-f.f-index (omega arith) in
+    let s : c.loop-f.n ≡ mp_count c.held-f-items.result.now = omega (arith, e, c.loop-f.invariant.so_far) in
+    s ∙ ap mp_count c.loop-f.invariant.held

@@ -13,9 +13,4 @@ returns-then-flow-gt-LAST_FLOW c = simp (le-leb 1 _ c.if-flow-lt1.false, lt-leb 
 
 pub returns : goal.returns
 unfolding numbered_at within
-returns c =
-    simp (
-      le-leb 1 _ c.if-flow-lt1.false,
-      le-leb _ 32 c.if-flow-gt-LAST_FLOW.false,
-      c.row_at_place.ensures,
-    )
+returns c = simp (le-leb 1 _ c.if-flow-lt1.false, le-leb _ 32 c.if-flow-gt-LAST_FLOW.false, c.row_at_place.ensures)

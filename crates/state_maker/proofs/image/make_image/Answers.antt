@@ -7,5 +7,5 @@ pub returns : goal.returns
 unfolding plan_of made
 returns c =
     let a : _ = c.args in
-    made_image (plan_of a.r) a.clock c.requires.1 a.b.now c.requires.0 c.clear.ensures c.put_low4.ensures
-    c.put_ports.ensures c.put_flows.ensures c.put_places.ensures
+    made_image (plan_of a.r.now) a.clock c.requires a.b.now c.told-b c.clear.ensures c.put_low4.ensures
+    c.put_rows.ensures c.put_rows-2.ensures c.put_places.ensures

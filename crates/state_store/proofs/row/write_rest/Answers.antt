@@ -5,4 +5,4 @@ use Rattle.state_store.proofs.row.write_rest.Goals as goal
 pub returns : goal.returns
 returns c =
     let a : _ = c.args in
-    splice_as (a.at + 8) a.b.now c.put_at.ensures c.rest_octets-w.ensures
+    splice_as (a.at + 8) a.b.now c.put_at.ensures c.rest_octets.ensures

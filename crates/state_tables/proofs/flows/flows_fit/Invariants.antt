@@ -1,5 +1,5 @@
 use mathlib.Core.Path.{◌≡◌}
-use Prim.Native.Nat.{◌-◌, ◌*◌, ◌≤◌}
+use Prim.Native.Nat.{◌*◌, ◌≤◌}
 use Rattle.plan.specs.Plan.{port_numbered}
 use Rattle.state.specs.Image.{state_of}
 use Rattle.state_tables.specs.Pass.{none_seen, flow_fits, flow_seen, flows_right}
@@ -11,6 +11,3 @@ abbrev pub invariant-loop-i : goal.invariant-loop-i
 invariant-loop-i l =
     Passing (flow_fits l.b) flow_seen (flows_right l.b) 32 32 l.i (seen l.last l.i l.odd l.marks) none_seen l.t
     × ((l.kind ≡ (port_numbered l.port (state_of l.b).plan).kind) × (l.marks ≤ l.i * 0x0404040404040404))
-
-abbrev pub decreases-loop-i : goal.decreases-loop-i
-decreases-loop-i l = 32 - l.i

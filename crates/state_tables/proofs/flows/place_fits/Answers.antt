@@ -1,26 +1,16 @@
-use borrow.Author.Tests.{le-leb, lt-leb, ne_eqb}
+use borrow.Author.Tests.{le-leb}
+use Rattle.std.proofs.lemmas.Grind.{common_steps}
 use Rattle.octets.specs.Lists.{within}
 use Rattle.state_tables.specs.Pass.{place_fits}
 use Rattle.state_tables.proofs.flows.place_fits.Goals as goal
+use native.Mathlib.Omega.{arith}
 
-pub returns-then-low-ne0 : goal.returns-then-low-ne0
-unfolding place_fits
-returns-then-low-ne0 c = rw (ne_eqb _ _ c.if-low-ne0.true)
-
-pub returns-then-number-lt1 : goal.returns-then-number-lt1
+pub returns-then-number-le-LAST_FLOW : goal.returns-then-number-le-LAST_FLOW
 unfolding place_fits within
-returns-then-number-lt1 c = rw (c.if-low-ne0.false, lt-leb _ _ c.if-number-lt1.true)
+returns-then-number-le-LAST_FLOW c =
+    let h : _ = c.if-number-le-LAST_FLOW.true in
+    rw (h.0, le-leb _ _ h.1, le-leb _ _ h.2, c.wide.ensures.0)
 
-pub returns-then-number-gt-LAST_FLOW : goal.returns-then-number-gt-LAST_FLOW
+pub returns-else-number-le-LAST_FLOW : goal.returns-else-number-le-LAST_FLOW
 unfolding place_fits within
-returns-then-number-gt-LAST_FLOW c = rw (c.if-low-ne0.false, le-leb _ _ c.if-number-lt1.false, lt-leb _ _ c.if-number-gt-LAST_FLOW.true)
-
-pub returns : goal.returns
-unfolding place_fits within
-returns c =
-    rw (
-      c.if-low-ne0.false,
-      le-leb _ _ c.if-number-lt1.false,
-      le-leb _ _ c.if-number-gt-LAST_FLOW.false,
-      c.wide.ensures.0,
-    )
+returns-else-number-le-LAST_FLOW c = grind (arith, common_steps)

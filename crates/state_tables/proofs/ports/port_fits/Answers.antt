@@ -1,3 +1,4 @@
+use mathlib.Core.Path.{◌∙◌}
 use Prim.Native.Nat.{◌+◌}
 use lib.ListN.{drop}
 use lib.Seq.{get_or-drop, drop-drop}
@@ -22,8 +23,8 @@ returns-then-good_port c =
     c.if-p-last.false c.good_port.ensures {k = c.low8.result} c.if-good_port.true
     (rw drop-drop c.low8.ensures)
 
-pub returns : goal.returns
-returns c =
+pub returns-else-good_port : goal.returns-else-good_port
+returns-else-good_port c =
     let a : _ = c.args in
-    port_bad a.last (drop a.at a.t.now) c.read_port-p.ensures
+    c.if-good_port.false ∙ port_bad a.last (drop a.at a.t.now) c.read_port-p.ensures
     c.if-p-last.false c.good_port.ensures c.if-good_port.false

@@ -14,18 +14,18 @@ use Rattle.state_tables.proofs.ports.ports_fit.Goals as goal
 pub loop-i-init : goal.loop-i-init
 loop-i-init c = ok_start port_fits (λ last l. get_or l 7 0) (leb 1) 16 8 0 c.args.t.now
 
-pub returns-then-last-eq0 : goal.returns-then-last-eq0
+pub returns-else-last-ne0 : goal.returns-else-last-ne0
 unfolding ok_ports
-returns-then-last-eq0 c =
+returns-else-last-ne0 c =
     let l : _ = c.loop-i in
-    rw c.if-last-eq0.true at (ok_end l.invariant (omega arith) c.low8.ensures c.if-low8-eq0.true)
+    rw c.if-last-ne0.false (rw c.if-last-ne0.false at (ok_end l.invariant (omega arith) c.low8.ensures c.if-low8-eq0.true))
 
 pub rest_zero-requires : goal.rest_zero-requires
 rest_zero-requires c = (omega arith, (omega arith, (omega arith, omega arith)))
 
-pub returns-then-low8-eq0 : goal.returns-then-low8-eq0
+pub returns-then-last-ne0 : goal.returns-then-last-ne0
 unfolding ok_ports
-returns-then-low8-eq0 c =
+returns-then-last-ne0 c =
     let l : _ = c.loop-i in
     c.rest_zero.ensures
     ∙ (rw (le-leb 1 l.last (omega arith)) at (ok_end l.invariant (omega arith) c.low8.ensures c.if-low8-eq0.true))
@@ -34,14 +34,14 @@ pub loop-i-preserved : goal.loop-i-preserved
 loop-i-preserved c =
     let l : _ = c.loop-i in
     ok_next l.invariant (omega arith) c.low8.ensures c.if-low8-eq0.false
-    (sym c.port_fits.ensures ∙ c.if-port_fits.true)
+    (sym c.port_fits.ensures ∙ c.if-not-port_fits.false)
     (get_or-drop (l.i * 16) c.args.t.now 7 0)
 
-pub returns-else-port_fits : goal.returns-else-port_fits
+pub returns-then-not-port_fits : goal.returns-then-not-port_fits
 unfolding ok_ports
-returns-else-port_fits c =
+returns-then-not-port_fits c =
     ok_bad c.loop-i.invariant (omega arith) c.low8.ensures
-    c.if-low8-eq0.false (sym c.port_fits.ensures ∙ c.if-port_fits.false)
+    c.if-low8-eq0.false (sym c.port_fits.ensures ∙ c.if-not-port_fits.true)
 
 pub returns : goal.returns
 unfolding ok_ports

@@ -1,4 +1,3 @@
-use Prim.Native.Nat.{◌-◌}
 use lib.Dec.{leb}
 use lib.ListN.{get_or}
 use Rattle.state_tables.specs.Pass.{port_fits}
@@ -7,6 +6,3 @@ use Rattle.state_tables.proofs.ports.ports_fit.Given as goal
 
 abbrev pub invariant-loop-i : goal.invariant-loop-i
 invariant-loop-i turn = Passing port_fits (λ last l. get_or l 7 0) (leb 1) 16 8 turn.i turn.last 0 turn.t
-
-abbrev pub decreases-loop-i : goal.decreases-loop-i
-decreases-loop-i l = 8 - l.i

@@ -14,14 +14,14 @@ loop-i-preserved c =
     let l : _ = c.loop-i in
     let a : _ = c.args in (
       omega arith,
-      (omega arith, run_next a.t.now a.at l.i a.run l.invariant.0 l.invariant.1.1 c.all_zero.ensures c.if-all_zero.true),
+      (omega arith, run_next a.t.now a.at l.i a.run l.invariant.0 l.invariant.1.1 c.all_zero.ensures c.if-not-all_zero.false),
     )
 
-pub returns-else-all_zero : goal.returns-else-all_zero
-returns-else-all_zero c =
+pub returns-then-not-all_zero : goal.returns-then-not-all_zero
+returns-then-not-all_zero c =
     let l : _ = c.loop-i in
     let a : _ = c.args in
-    run_bad a.t.now a.at l.i a.run l.invariant.0 l.invariant.1.1 c.all_zero.ensures c.if-all_zero.false
+    run_bad a.t.now a.at l.i a.run l.invariant.0 l.invariant.1.1 c.all_zero.ensures c.if-not-all_zero.true
 
 pub returns-then-i-t : goal.returns-then-i-t
 returns-then-i-t c =

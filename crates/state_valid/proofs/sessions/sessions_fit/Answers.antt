@@ -21,19 +21,19 @@ returns-then-key-eq0 c =
     ∙ ok_end c.loop-i.invariant (omega arith) c.low8-key.ensures c.if-key-eq0.true
 
 pub session_fits-requires : goal.session_fits-requires
-session_fits-requires c = (omega arith, omega arith)
+session_fits-requires c = omega arith
 
 pub loop-i-preserved : goal.loop-i-preserved
 loop-i-preserved c =
     let k : _ = c.low8-key.ensures in
     ok_next c.loop-i.invariant (omega arith) k c.if-key-eq0.false
-    (sym c.session_fits.ensures ∙ c.if-session_fits.true) (sym k)
+    (sym c.session_fits.ensures ∙ c.if-not-session_fits.false) (sym k)
 
-pub returns-else-session_fits : goal.returns-else-session_fits
+pub returns-then-not-session_fits : goal.returns-then-not-session_fits
 unfolding ok_sessions
-returns-else-session_fits c =
+returns-then-not-session_fits c =
     ok_bad c.loop-i.invariant (omega arith) c.low8-key.ensures
-    c.if-key-eq0.false (sym c.session_fits.ensures ∙ c.if-session_fits.false)
+    c.if-key-eq0.false (sym c.session_fits.ensures ∙ c.if-not-session_fits.true)
 
 pub rest_zero-requires-2 : goal.rest_zero-requires-2
 rest_zero-requires-2 c = (omega arith, omega arith)

@@ -1,25 +1,21 @@
-use Rattle.tmavolice.proofs.CheckLaws.{no_image, sized, flow_notice, flow_missing, flow_passes}
+use mathlib.Core.Path.{ap, ◌∙◌}
+use mathlib.Core.Bool.{not}
+use Rattle.state.proofs.ImageLaws.{ok_length}
+use Rattle.tmavolice.proofs.CheckLaws.{stopped, quiet_passes, flow_stops, flow_missing, flow_passes}
 use Rattle.tmavolice.proofs.refusals.flow_refusal.Goals as goal
 
-pub notice_due-requires : goal.notice_due-requires
-notice_due-requires c = sized _ c.is_image.ensures c.if-is_image.true
+pub returns-in_err-quiet_refusal : goal.returns-in_err-quiet_refusal
+returns-in_err-quiet_refusal c = stopped _ _ c.from_residual.ensures.1 (flow_stops _ _ _ c.in_err-quiet_refusal.ensures)
 
-pub returns-then-notice_due : goal.returns-then-notice_due
-returns-then-notice_due c =
-    flow_notice c.is_image.ensures c.if-is_image.true c.notice_due.ensures c.if-notice_due.true
+pub whole-requires : goal.whole-requires
+whole-requires c = ok_length _ (quiet_passes _ c.in_ok-quiet_refusal.ensures).0
 
-pub numbered_at-requires : goal.numbered_at-requires
-numbered_at-requires c = sized _ c.is_image.ensures c.if-is_image.true
-
-pub returns-then-numbered_at-eq0 : goal.returns-then-numbered_at-eq0
-returns-then-numbered_at-eq0 c =
-    flow_missing c.is_image.ensures c.if-is_image.true c.notice_due.ensures c.if-notice_due.false
-    c.numbered_at.ensures c.if-numbered_at-eq0.true
-
-pub returns-then-is_image : goal.returns-then-is_image
-returns-then-is_image c =
-    flow_passes c.is_image.ensures c.if-is_image.true c.notice_due.ensures c.if-notice_due.false
-    c.numbered_at.ensures c.if-numbered_at-eq0.false
+pub returns-then-is_none : goal.returns-then-is_none
+returns-then-is_none c =
+    let quiet : _ = quiet_passes _ c.in_ok-quiet_refusal.ensures in
+    flow_missing quiet.0 quiet.1 (rw c.whole.ensures at c.numbered_at.ensures) (c.is_none.ensures ∙ ap not c.if-is_none.true)
 
 pub returns : goal.returns
-returns c = no_image c.is_image.ensures c.if-is_image.false
+returns c =
+    let quiet : _ = quiet_passes _ c.in_ok-quiet_refusal.ensures in
+    flow_passes quiet.0 quiet.1 (rw c.whole.ensures at c.numbered_at.ensures) (c.is_none.ensures ∙ ap not c.if-is_none.false)

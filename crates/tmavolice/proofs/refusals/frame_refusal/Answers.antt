@@ -23,17 +23,17 @@ pub returns-then-out-lt-LEAST_OUTPUT : goal.returns-then-out-lt-LEAST_OUTPUT
 returns-then-out-lt-LEAST_OUTPUT c =
     λ port found. frame_roomless c.requires found c.if-arrival-eq0.false c.if-side.false c.if-frame-lt-SHORTEST_FRAME.false c.if-frame-gt-LONGEST_FRAME.false c.if-out-lt-LEAST_OUTPUT.true
 
-pub notice_due-requires : goal.notice_due-requires
-notice_due-requires c = ok_length _ c.requires
+pub whole-requires : goal.whole-requires
+whole-requires c = ok_length _ c.requires
 
 pub returns-then-notice_due : goal.returns-then-notice_due
 returns-then-notice_due c =
     λ port found.
-    frame_notice c.requires found c.if-arrival-eq0.false c.if-side.false c.if-frame-lt-SHORTEST_FRAME.false c.if-frame-gt-LONGEST_FRAME.false c.if-out-lt-LEAST_OUTPUT.false c.notice_due.ensures
+    frame_notice c.requires found c.if-arrival-eq0.false c.if-side.false c.if-frame-lt-SHORTEST_FRAME.false c.if-frame-gt-LONGEST_FRAME.false c.if-out-lt-LEAST_OUTPUT.false (rw c.whole.ensures at c.notice_due.ensures)
     c.if-notice_due.true
 
 pub returns : goal.returns
 returns c =
     λ port found.
-    frame_passes c.requires found c.if-arrival-eq0.false c.if-side.false c.if-frame-lt-SHORTEST_FRAME.false c.if-frame-gt-LONGEST_FRAME.false c.if-out-lt-LEAST_OUTPUT.false c.notice_due.ensures
+    frame_passes c.requires found c.if-arrival-eq0.false c.if-side.false c.if-frame-lt-SHORTEST_FRAME.false c.if-frame-gt-LONGEST_FRAME.false c.if-out-lt-LEAST_OUTPUT.false (rw c.whole.ensures at c.notice_due.ensures)
     c.if-notice_due.false

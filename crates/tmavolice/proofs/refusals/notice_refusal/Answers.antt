@@ -1,22 +1,23 @@
-use Rattle.tmavolice.proofs.CheckLaws.{no_image, sized, notice_short, notice_none, notice_passes}
+use Rattle.state.proofs.ImageLaws.{ok_length}
+use Rattle.tmavolice.proofs.CheckLaws.{stopped, image_passes, image_stops, notice_short, notice_none, notice_passes}
 use Rattle.tmavolice.proofs.refusals.notice_refusal.Goals as goal
 
-pub notice_due-requires : goal.notice_due-requires
-notice_due-requires c = sized _ c.is_image.ensures c.if-is_image.true
+pub returns-in_err-image_refusal : goal.returns-in_err-image_refusal
+returns-in_err-image_refusal c = stopped _ _ c.from_residual.ensures.1 (image_stops _ _ _ c.in_err-image_refusal.ensures)
 
-pub returns-then-notice_due : goal.returns-then-notice_due
-returns-then-notice_due c =
-    notice_passes c.is_image.ensures c.if-is_image.true
-    c.if-out-ge-LEAST_OUTPUT.true c.notice_due.ensures c.if-notice_due.true
+pub returns-then-out-lt-LEAST_OUTPUT : goal.returns-then-out-lt-LEAST_OUTPUT
+returns-then-out-lt-LEAST_OUTPUT c =
+    notice_short (image_passes _ c.in_ok-image_refusal.ensures) c.if-out-lt-LEAST_OUTPUT.true
 
-pub returns-then-out-ge-LEAST_OUTPUT : goal.returns-then-out-ge-LEAST_OUTPUT
-returns-then-out-ge-LEAST_OUTPUT c =
-    notice_none c.is_image.ensures c.if-is_image.true
-    c.if-out-ge-LEAST_OUTPUT.true c.notice_due.ensures c.if-notice_due.false
+pub whole-requires : goal.whole-requires
+whole-requires c = ok_length _ (image_passes _ c.in_ok-image_refusal.ensures)
 
-pub returns-then-is_image : goal.returns-then-is_image
-returns-then-is_image c =
-    notice_short c.is_image.ensures c.if-is_image.true c.if-out-ge-LEAST_OUTPUT.false
+pub returns-then-not-notice_due : goal.returns-then-not-notice_due
+returns-then-not-notice_due c =
+    notice_none (image_passes _ c.in_ok-image_refusal.ensures)
+    c.if-out-lt-LEAST_OUTPUT.false (rw c.whole.ensures at c.notice_due.ensures) c.if-not-notice_due.true
 
 pub returns : goal.returns
-returns c = no_image c.is_image.ensures c.if-is_image.false
+returns c =
+    notice_passes (image_passes _ c.in_ok-image_refusal.ensures)
+    c.if-out-lt-LEAST_OUTPUT.false (rw c.whole.ensures at c.notice_due.ensures) c.if-not-notice_due.false

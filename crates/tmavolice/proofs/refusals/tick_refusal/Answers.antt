@@ -1,25 +1,19 @@
-use Rattle.tmavolice.proofs.CheckLaws.{no_image, sized, tick_notice, tick_far, tick_passes}
+use Rattle.state.proofs.ImageLaws.{ok_length}
+use Rattle.tmavolice.proofs.CheckLaws.{stopped, quiet_passes, tick_stops, tick_far, tick_passes}
 use Rattle.tmavolice.proofs.refusals.tick_refusal.Goals as goal
 
-pub notice_due-requires : goal.notice_due-requires
-notice_due-requires c = sized _ c.is_image.ensures c.if-is_image.true
+pub returns-in_err-quiet_refusal : goal.returns-in_err-quiet_refusal
+returns-in_err-quiet_refusal c = stopped _ _ c.from_residual.ensures.1 (tick_stops _ _ _ c.in_err-quiet_refusal.ensures)
 
-pub returns-then-notice_due : goal.returns-then-notice_due
-returns-then-notice_due c =
-    tick_notice c.is_image.ensures c.if-is_image.true c.notice_due.ensures c.if-notice_due.true
-
-pub clock_of-requires : goal.clock_of-requires
-clock_of-requires c = sized _ c.is_image.ensures c.if-is_image.true
+pub whole-requires : goal.whole-requires
+whole-requires c = ok_length _ (quiet_passes _ c.in_ok-quiet_refusal.ensures).0
 
 pub returns-then-jumped : goal.returns-then-jumped
 returns-then-jumped c =
-    tick_far c.is_image.ensures c.if-is_image.true c.notice_due.ensures c.if-notice_due.false
-    c.clock_of.ensures c.jumped.ensures c.if-jumped.true
-
-pub returns-then-is_image : goal.returns-then-is_image
-returns-then-is_image c =
-    tick_passes c.is_image.ensures c.if-is_image.true c.notice_due.ensures c.if-notice_due.false
-    c.clock_of.ensures c.jumped.ensures c.if-jumped.false
+    let quiet : _ = quiet_passes _ c.in_ok-quiet_refusal.ensures in
+    tick_far quiet.0 quiet.1 (rw c.whole.ensures at c.clock_of.ensures) c.jumped.ensures c.if-jumped.true
 
 pub returns : goal.returns
-returns c = no_image c.is_image.ensures c.if-is_image.false
+returns c =
+    let quiet : _ = quiet_passes _ c.in_ok-quiet_refusal.ensures in
+    tick_passes quiet.0 quiet.1 (rw c.whole.ensures at c.clock_of.ensures) c.jumped.ensures c.if-jumped.false

@@ -1,0 +1,16 @@
+use mathlib.Core.Path.{refl}
+use Rattle.calls.specs.Calls.{served, lent, makes}
+use Rattle.tmavolice.proofs.CheckLaws.{prohibit_checks}
+use Rattle.tmavolice.proofs.EnterLaws.{entered_err, entered_served, done}
+use Rattle.tmavolice.proofs.answers.answer_prohibit.Goals as goal
+
+pub returns-in_err-flow_refusal : goal.returns-in_err-flow_refusal
+unfolding lent makes
+returns-in_err-flow_refusal c = entered_err _ _ c.from_residual.ensures.1 (prohibit_checks c.in_err-flow_refusal.ensures) refl
+
+pub returns : goal.returns
+unfolding served lent makes
+returns c =
+    let same : _ = (rw c.unwrap.ensures at c.as_mut_array.ensures.cases).same in
+    let told : _ = rw same at c.prohibit_flow.ensures in
+    entered_served (prohibit_checks c.in_ok-flow_refusal.ensures) refl refl (done _ told) refl
