@@ -1,5 +1,5 @@
 // A plan's text, read line by line.
-ghost use Rattle.std.specs.Prelude.{◌≡◌, true, Ok, Err, IfOk};
+ghost use Rattle.std.specs.Prelude.{◌≡◌, true, Ok, Err, IfOk, IfErr};
 ghost use Rattle.plan.specs.Plan.{so_far};
 ghost use Rattle.plan.specs.Line.{line_of};
 ghost use Rattle.plan.specs.PlanText.{reason_of, added, empty_plan, plan_in};
@@ -22,12 +22,13 @@ fn no_records() -> Records
     }
 }
 
-// The record of a line added to those held, or the reason why not.
+// The record of a line added to those held, or the reason why not; they are then as they were.
 #[inline(never)]
 fn read_line(r: &mut Records, line: &[u8]) -> Result<(), Reason>
     requires { (r.old ≡ by_value (plan_of r.old)) × (so_far (plan_of r.old) ≡ true) }
     ensures reason { result ≡ judged (reason_of (plan_of r.old) (line_of line.now)) }
     ensures records { IfOk result (λ _. r.new ≡ by_value (added (line_of line.now) (plan_of r.old))) }
+    ensures kept { IfErr result (λ _. r.new ≡ r.old) }
 {
     let Some(said) = line_of(line) else {
         return Err(Reason::Unreadable);

@@ -38,10 +38,11 @@ const SESSIONS: Table = Table {
     width: SESSION_WIDTH,
 };
 
-// Where the first row of a table stands that passes.
+// Where the first row of a table stands that passes. Each row passes or not.
 fn find_row<F: Fn(usize) -> bool>(b: &[u8], table: Table, passes: F) -> Option<usize>
     requires inside { (1 ≤ table.start) × ((8 ≤ table.width) × (table.start + table.rows * table.width ≤ length b.now)) }
     requires callable { (at : ℕ) → at + table.width ≤ length b.now → F.pre passes at }
+    requires one { (at : ℕ) (x : Bool) (y : Bool) → at + table.width ≤ length b.now → F.post passes at x → F.post passes at y → x ≡ y }
     ensures { (test : List ℕ → Bool)
         → ((at : ℕ) (said : Bool) → at + table.width ≤ length b.now → F.post passes at said → said ≡ test (drop at b.now))
         → result ≡ row_found (find_row table.rows table.width test table.start (drop table.start b.now)) }

@@ -1,14 +1,14 @@
 // An entry for the host's measurements and tests: tests an image, and finds a flow, its MP and a session in it.
 #![tactic(auto)]
 
-ghost use Rattle.std.specs.Prelude.{◌≡◌, ◌+◌, ◌*◌, ◌<◌, ◌^◌, length};
-ghost use Rattle.state.specs.Image.{state_of};
+ghost use Rattle.std.specs.Prelude.{◌≡◌, true, ◌+◌, ◌*◌, ◌<◌, ◌^◌};
+ghost use Rattle.state.specs.Image.{state_of, ok_image};
 ghost use Rattle.state_probe.specs.Probe.{session_part, machine_at, looked};
 
 use codec::FrameSet;
 use machine::Machine;
 use state::{Image, flow_at, machine_of, mp_of, number_of};
-use state_valid::is_valid;
+use state_valid::is_image;
 
 fn session_part(m: Machine) -> u64
     ensures { (result ≡ session_part m) × (result + 2 ^ 24 < 2 ^ 64) }
@@ -35,16 +35,15 @@ fn machine_at(image: &Image, flow: u8, source: u64) -> Machine
     machine_of(image, flow as u64 * 281474976710656 + source)
 }
 
+// Of an image that passed the test.
 fn look(image: &Image, port: u8, kind: u8, vid: u16, level: u8, source: u64) -> u64
+    requires { ok_image image.now ≡ true }
     ensures { result ≡ looked image.now port kind vid level source }
 {
-    if is_valid(image) {
-        let row = flow_at(image, port, FrameSet { kind, vid });
-        let number = number_of(image, row).unwrap_or(0);
-        let m = machine_at(image, number, source);
-        return low_part(number, mp_of(image, row, level)) + session_part(m);
-    }
-    0
+    let row = flow_at(image, port, FrameSet { kind, vid });
+    let number = number_of(image, row).unwrap_or(0);
+    let m = machine_at(image, number, source);
+    low_part(number, mp_of(image, row, level)) + session_part(m)
 }
 
 #[unsafe(no_mangle)]
@@ -58,6 +57,9 @@ pub extern "C" fn probe_look(
 ) -> u64
     ensures { result ≡ looked image.now port kind vid level source }
 {
+    if !is_image(image) {
+        return 0;
+    }
     match image.as_array() {
         Some(image) => look(image, port, kind, vid, level, source),
         None => 0,

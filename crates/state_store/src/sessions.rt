@@ -9,10 +9,12 @@ use machine::Session;
 use octets::{clear, low8};
 use state::{Image, MOST_SESSIONS, SESSION_WIDTH, SESSIONS_AT, SESSIONS_END, read_session};
 
-// Puts each session through a step. (The rows keep their keys.)
+// Puts each session through a step, which answers one session for each, of the same key.
 pub fn sweep_sessions<F: Fn(Session) -> Session>(b: &mut [u8], step: F)
     requires long { length b.old ≡ 4096 }
     requires callable { F.IsAlwaysCallable step }
+    requires one { (x : Session) (y : Session) (z : Session) → F.post step x y → F.post step x z → y ≡ z }
+    requires keyed { (x : Session) (y : Session) → F.post step x y → key_of y ≡ key_of x }
     ensures { (f : Session → Session) → ((x : Session) → key_of (f x) ≡ key_of x)
         → ((x : Session) (y : Session) → F.post step x y → y ≡ f x) → b.new ≡ sessions_mapped f b.old }
 {
