@@ -45,12 +45,12 @@ module _ (l : List ℕ) (at : ℕ) (s : Summary) where
   breaks e = rw (parse_at l at, ← e)
 
 -- the octets of unknown TLVs, none if the list is bad
-abbrev unknown_of : Summed → ℕ
+abbrev pub unknown_of : Summed → ℕ
 unknown_of (Ok s) = s.unknown
 unknown_of (Err e) = 0
 
 -- one TLV adds at most its own octets
-count_unknown : (s : Summary) (kind : ℕ) (v : List ℕ) → unknown_of (count s kind v) ≤ s.unknown + 3 + length v
+pub count_unknown : (s : Summary) (kind : ℕ) (v : List ℕ) → unknown_of (count s kind v) ≤ s.unknown + 3 + length v
 unfolding count
 count_unknown s kind v = go (is_unknown (tlv_of kind v)) (eqb kind 37) (timer_of v)
   where

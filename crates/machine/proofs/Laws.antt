@@ -16,6 +16,10 @@ pub seconds_good : (n : ℕ) → 1 ≤ n → n ≤ 86400 → good_seconds n ≡ 
 unfolding good_seconds within
 seconds_good n low high = rw (le-leb _ _ low, le-leb _ _ high)
 
+pub seconds_none : (n : ℕ) → n < 1 → good_seconds n ≡ false
+unfolding good_seconds within
+seconds_none n h = rw (lt-leb _ _ h)
+
 pub seconds_few : (n : ℕ) → good_seconds n ≡ true → n ≤ 86400
 unfolding good_seconds
 seconds_few n good = within_high 1 86400 n good

@@ -1,7 +1,7 @@
 -- A line cut at its tabs.
 use mathlib.Core.Path.{◌≡◌, ◌∙◌}
 use mathlib.Core.List.{List, [], ◌∷◌}
-use Prim.Native.Nat.{ℕ, ◌+◌, ◌-◌, ◌≤◌}
+use Prim.Native.Nat.{ℕ, ◌+◌, ◌-◌, ◌<◌, ◌≤◌}
 use native.Mathlib.Nat.{sub-zero}
 use native.Mathlib.Omega.{arith}
 use lib.ListN.{length, take, drop}
@@ -40,6 +40,10 @@ module _ (l : List ℕ) {one : ℕ} (e : Ends l 0 one) where
           ∷ take (two - (one + 1)) (drop (one + 1) l)
           ∷ parted tab (take (length l - (two + 1)) (drop (two + 1) l))
       cut_second = second ∙ rw (sub-zero, behind (two + 1) l)
+
+      -- the two tabs between three fields, in their order
+      pub three_in : (one < two) × (two < length l)
+      three_in = (omega arith, omega arith)
 
       module _ {three : ℕ} (g : Ends l (two + 1) three) where
         pub cuts_three : three ≡ length l

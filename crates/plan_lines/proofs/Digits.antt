@@ -116,16 +116,13 @@ module _ (l : List ℕ) (i so : ℕ) (h : i < length l) where
     unfolding hex_on every
     hex_none = simp (drop-cons l i 0 h, no_value (get_or l i 0) e)
 
-nothing_behind : (l : List ℕ) → drop (length l) l ≡ []
-nothing_behind l = let h : length l ≤ length l = omega arith in drop_of_length-le l h
-
-pub digits_end : (most : ℕ) (l : List ℕ) (so : ℕ) → so ≤ most → Some so ≡ digits_on most so (drop (length l) l)
+pub digits_end : (most : ℕ) (l : List ℕ) (i so : ℕ) → length l ≤ i → so ≤ most → Some so ≡ digits_on most so (drop i l)
 unfolding digits_on every spelled
-digits_end most l so k = let e : min so most ≡ so = omega arith in simp (nothing_behind l, e)
+digits_end most l i so h k = let e : min so most ≡ so = omega arith in simp (drop_of_length-le l h, e)
 
-pub hex_end : (l : List ℕ) (so : ℕ) → Some so ≡ hex_on so (drop (length l) l)
+pub hex_end : (l : List ℕ) (i so : ℕ) → length l ≤ i → Some so ≡ hex_on so (drop i l)
 unfolding hex_on every spelled
-hex_end l so = simp (nothing_behind l)
+hex_end l i so h = simp (drop_of_length-le l h)
 
 -- twelve hexadecimal digits have 48 bits: what i of them spell, with one more
 pub hex_fits : (i so d : ℕ) → i < 12 → so < 16 ^ i → d < 16 → (so * 16 + d < 16 ^ (i + 1)) × (so * 16 + d < 2 ^ 48)

@@ -19,6 +19,10 @@ use Rattle.std.specs.Option.{is_some}
 use Rattle.plan_reader.specs.declared.fault.Reason.{Reason}
 use Rattle.plan_reader.specs.ReadPlan.{judged, reason_numbered}
 
+pub or_none : (b : Bool) → (b || false) ≡ b
+or_none true = refl
+or_none false = refl
+
 -- what was found by its number
 module _ {A : Type 0} (number : A → ℕ) {x y : A} (e : x ≡ y) where
   pub there : (number x ≡ 0 → ⊥) → in_plan (number y) ≡ true

@@ -1,5 +1,4 @@
-use mathlib.Core.Path.{◌≡◌, sym, ◌∙◌}
-use lib.ListN.{length}
+use mathlib.Core.Path.{sym, ◌∙◌}
 use native.Mathlib.Omega.{arith}
 use Rattle.plan_lines.proofs.Digits.{digits_turn, digits_other, digits_none, digits_end}
 use Rattle.plan_lines.proofs.fields.digits_of.Goals as goal
@@ -23,6 +22,4 @@ loop-x-preserved c =
 pub returns : goal.returns
 returns c =
     let l : _ = c.loop-x in
-    let a : _ = c.args in
-    let e : l.x-index ≡ length a.f.now = omega arith in
-    digits_end a.most a.f.now l.so l.invariant.0 ∙ rw e at l.invariant.1
+    digits_end c.args.most c.args.f.now l.x-index l.so (omega arith) l.invariant.0 ∙ l.invariant.1

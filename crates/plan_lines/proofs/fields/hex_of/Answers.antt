@@ -1,5 +1,4 @@
-use mathlib.Core.Path.{◌≡◌, sym, ◌∙◌}
-use lib.ListN.{length}
+use mathlib.Core.Path.{sym, ◌∙◌}
 use native.Mathlib.Omega.{arith}
 use Rattle.plan_lines.proofs.Digits.{hex_turn, hex_none, hex_end, hex_fits}
 use Rattle.plan_lines.proofs.fields.hex_of.Goals as goal
@@ -19,6 +18,4 @@ loop-x-preserved c =
 pub returns : goal.returns
 returns c =
     let l : _ = c.loop-x in
-    let f : _ = c.args.f.now in
-    let e : l.x-index ≡ length f = omega arith in
-    hex_end f l.so ∙ rw e at l.invariant.1
+    hex_end c.args.f.now l.x-index l.so (omega arith) ∙ l.invariant.1
