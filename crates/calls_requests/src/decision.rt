@@ -4,7 +4,7 @@ ghost use Rattle.codec.specs.FrameSet.{soam};
 ghost use Rattle.machine.specs.declared.Session.{Session};
 ghost use Rattle.machine.specs.declared.Machine.TheVariants.{Inactive, Active};
 ghost use Rattle.machine.specs.Table.{admit};
-ghost use Rattle.machine.specs.Machine.{numbered, full_code, after};
+ghost use Rattle.machine.specs.Machine.{numbered, after};
 ghost use Rattle.plan.specs.declared.Flow.{Flow};
 ghost use Rattle.state.specs.State.{is_allowed, full_for};
 ghost use Rattle.state.specs.Image.{image, state_of, ok_image};
@@ -62,11 +62,14 @@ fn asked_of(request: Request) -> Result<Asked, Code>
     }
 }
 
-// Is the unit full for the session that an action admits? No other action asks.
-fn full_at(b: &Image, action: u8) -> bool
-    ensures { (f : Flow) → full_code result ≡ cond (eqb action admit) (full_for f (state_of b.now)) 0 }
+// For an action that admits: is the unit full for one more session? 0, or the code of the reply. For any other: 0.
+fn full_at(b: &Image, action: u8) -> u8
+    ensures { (f : Flow) → result ≡ cond (eqb action admit) (full_for f (state_of b.now)) 0 }
 {
-    action == ADMIT && full_for(b)
+    if action == ADMIT {
+        return full_for(b);
+    }
+    0
 }
 
 // What becomes of a request on an allowed flow, and with which code.

@@ -22,6 +22,7 @@ use Rattle.machine.specs.declared.codes.Code.TheVariants.{
   Prohibited,
   UnknownMessageType,
   UnknownError,
+  Other,
 }
 use Rattle.machine.specs.declared.Decided.{Decided}
 use Rattle.machine.specs.declared.Fate.{Fate}
@@ -94,6 +95,7 @@ code_octet Timeout = 8
 code_octet Prohibited = 9
 code_octet UnknownMessageType = 10
 code_octet UnknownError = 255
+code_octet (Other n) = n
 
 -- the answer to a request in numbers: the octet of its code, and what becomes of the session
 pub record Decision : Type 0 where
@@ -103,10 +105,6 @@ pub record Decision : Type 0 where
 -- what the code answers, in numbers
 abbrev pub numbered : Decided → Decision
 numbered d = record { code = code_octet d.code; change = d.change }
-
--- is the unit full, as a code: 2 if it is, and 0, which is no such code, if not
-abbrev pub full_code : Bool → ℕ
-full_code full = cond full 2 0
 
 -- MACHINE-15: a code, and no change.
 unfoldable pub answered : ℕ → Decision

@@ -1,6 +1,6 @@
 // What a request's action does.
 ghost use Rattle.std.specs.Prelude.{◌≡◌, ◌*◌, ◌<◌};
-ghost use Rattle.machine.specs.Machine.{answered, code_octet, numbered, full_code, good_seconds, admitted, same_mp, restarted, refreshed, closed, decided};
+ghost use Rattle.machine.specs.Machine.{answered, code_octet, numbered, good_seconds, admitted, same_mp, restarted, refreshed, closed, decided};
 
 use crate::actions::{ADMIT, ALREADY, CLOSE, REPORT, RESTART};
 use crate::codes::Code;
@@ -27,15 +27,15 @@ fn good_seconds(seconds: u32) -> bool
     matches!(seconds, 1..=MOST_SECONDS)
 }
 
-// Activate at an inactive machine. `full` is whether no more session may open.
-fn admitted(full: bool, seconds: u32, new: Session) -> Decided
-    ensures { numbered result ≡ admitted (full_code full) seconds new }
+// Activate at an inactive machine. `full` is 0 when one more session may open.
+fn admitted(full: u8, seconds: u32, new: Session) -> Decided
+    ensures { numbered result ≡ admitted full seconds new }
 {
     if !good_seconds(seconds) {
         return answered(Code::Unsupported);
     }
-    if full {
-        return answered(Code::MaxSessionsExceeded);
+    if full != 0 {
+        return answered(Code::of(full));
     }
     Decided {
         code: Code::NoError,
@@ -88,8 +88,9 @@ fn closed(new: Session, m: Machine) -> Decided
 }
 
 // The request's action carried out. `new` is the session that an Activate would open.
-pub fn decide(action: u8, full: bool, seconds: u32, new: Session, m: Machine) -> Decided
-    ensures { numbered result ≡ decided action (full_code full) seconds new m }
+// Stays a number, `full`: the definition `admitted` answers with it, whatever it is, unless it is 0.
+pub fn decide(action: u8, full: u8, seconds: u32, new: Session, m: Machine) -> Decided
+    ensures { numbered result ≡ decided action full seconds new m }
 {
     match action {
         ADMIT => admitted(full, seconds, new),

@@ -1,5 +1,5 @@
 // What an image says, whatever its octets are.
-ghost use Rattle.std.specs.Prelude.{◌≡◌, cond, ◌+◌, ◌≤◌, length, drop, IfSome, option_map};
+ghost use Rattle.std.specs.Prelude.{◌≡◌, ◌+◌, ◌≤◌, length, drop, IfSome, option_map};
 ghost use Rattle.octets.specs.Lists.{count};
 ghost use Rattle.machine.specs.Machine.{is_open};
 ghost use Rattle.plan.specs.declared.Flow.{Flow};
@@ -17,6 +17,9 @@ use crate::rows::{owed_at, port_at, session_at};
 use machine::Machine;
 use octets::{low4, low8};
 use plan::Port;
+
+// The octet of the code MaxSessionsExceeded.
+const MAX_SESSIONS_EXCEEDED: u8 = 2;
 
 pub fn clock_of(b: &Image) -> u32
     ensures { result ≡ (state_of b.now).clock }
@@ -109,9 +112,13 @@ pub fn open_count(b: &Image) -> usize
     n
 }
 
-// Is the unit full for one more session?
-pub fn full_for(b: &Image) -> bool
-    ensures { (f : Flow) → cond result 2 0 ≡ full_for f (state_of b.now) }
+// Is the unit full for one more session? 0, or the code of the reply.
+// Stays a number: the definition `full_for` has 0 for room, and `decide` takes it.
+pub fn full_for(b: &Image) -> u8
+    ensures { (f : Flow) → result ≡ full_for f (state_of b.now) }
 {
-    MOST_SESSIONS <= open_count(b)
+    if open_count(b) < MOST_SESSIONS {
+        return 0;
+    }
+    MAX_SESSIONS_EXCEEDED
 }

@@ -4,5 +4,5 @@ use Rattle.calls_requests.proofs.decision.full_at.Goals as goal
 pub returns-then-action-eq-ADMIT : goal.returns-then-action-eq-ADMIT
 returns-then-action-eq-ADMIT c = λ f. rw (eq-eqb _ _ c.if-action-eq-ADMIT.true) (c.full_for.ensures f)
 
-pub returns-else-action-eq-ADMIT : goal.returns-else-action-eq-ADMIT
-returns-else-action-eq-ADMIT c = λ f. rw (ne_eqb _ _ c.if-action-eq-ADMIT.false)
+pub returns : goal.returns
+returns c = λ f. rw (ne_eqb _ _ c.if-action-eq-ADMIT.false)

@@ -1,12 +1,11 @@
-use mathlib.Core.Path.{ap, ◌∙◌}
-use Rattle.std.proofs.Common.{◌≡◌, ℕ, arith, cond, leb, ltb}
-use Rattle.std.proofs.lemmas.Bool.Decides.{nat_tests}
+use borrow.Author.Tests.{lt-ltb, le-ltb}
 use Rattle.state.specs.State.{full_for}
 use Rattle.state.proofs.fields.full_for.Goals as goal
 
-sixteen : (n : ℕ) → ◌≡◌ {A = ℕ} (cond (leb 16 n) 2 0) (cond (ltb n 16) 0 2)
-sixteen n = grind (arith, nat_tests)
+pub returns-then-open_count-lt-MOST_SESSIONS : goal.returns-then-open_count-lt-MOST_SESSIONS
+unfolding full_for
+returns-then-open_count-lt-MOST_SESSIONS c = λ f. simp (lt-ltb _ _ (rw c.open_count.ensures at c.if-open_count-lt-MOST_SESSIONS.true))
 
 pub returns : goal.returns
 unfolding full_for
-returns c = λ f. ap (λ n. cond {A = ℕ} (leb 16 n) 2 0) c.open_count.ensures ∙ sixteen _
+returns c = λ f. simp (le-ltb _ _ (rw c.open_count.ensures at c.if-open_count-lt-MOST_SESSIONS.false))
