@@ -15,7 +15,7 @@ use Rattle.octets.proofs.Same.{both_true}
 use Rattle.codec.specs.declared.Addressed.{Addressed}
 use Rattle.codec.specs.FrameSet.{oam_type}
 use Rattle.codec.specs.Request.{llr}
-use Rattle.codec_replies.specs.Reply.{flags, header, timer_part, seconds_of, reply_pdu, reply_frame}
+use Rattle.codec_replies.specs.Reply.{flags, header, timer_part, reply_pdu, reply_frame}
 use Rattle.machine.specs.declared.Session.{Session}
 use Rattle.machine.specs.Machine.{is_open}
 use Rattle.plan.specs.PlanText.{Reading, fault, planned, plan_in}
@@ -187,7 +187,7 @@ module _ {before after : List ℕ} where
       let reply : List ℕ = reply_frame r.requester r.from r.tag
       (reply_pdu r.level r.kind r.code r.port r.status r.copies) in
       let behind : List ℕ
-      = octets 6 r.port ++ timer_part r.kind r.code (seconds_of r.status) ++ r.copies ++ (0 ∷ [])
+      = octets 6 r.port ++ timer_part r.kind r.code r.status.seconds ++ r.copies ++ (0 ∷ [])
       ++ drop (length reply) before in
       let parted : over reply before ≡ ahead ++ (r.code ∷ behind) = simp append_assoc in
       ap (λ (l : List ℕ). get_or l (14 + length r.tag + 5) 0) (r.written ∙ parted)

@@ -8,7 +8,6 @@ use native.Mathlib.Omega.{arith}
 use lib.Dec.{ltb}
 use lib.ListN.{length, get_or, drop, length-take, length-drop}
 use borrow.Author.Tests.{ltb-false}
-use Rattle.std.specs.Prelude.{Option}
 use Rattle.octets.specs.Octets.{octets}
 use Rattle.octets.proofs.Laws.{octets_length}
 use Rattle.codec.specs.declared.Addressed.{Addressed}
@@ -145,7 +144,7 @@ pub notice_length : (port : Port) (x : Session) → length (notice_frame port x)
 unfolding notice_frame timer_part carries_timer
 notice_length port x =
     let address : ℕ = port.address in
-    let inactive : Option Status = status_of Inactive in
+    let inactive : Status = status_of Inactive in
     omega (
       arith,
       frame_length x.source address (octets x.taglen x.tag) (reply_pdu x.level 2 x.notice address inactive []),

@@ -1,5 +1,5 @@
 -- The machine (MACHINE): the response codes that are sent, as MACHINE-19 lists them, and in which answers.
-use Rattle.std.specs.Prelude.{◌≡◌, Bool, true, ◌||◌, List, [], ◌∷◌, ◌++◌, ℕ, ◌%◌, ◌^◌, eqb, Option}
+use Rattle.std.specs.Prelude.{◌≡◌, Bool, true, ◌||◌, List, [], ◌∷◌, ◌++◌, ℕ, ◌%◌, ◌^◌, eqb}
 use Rattle.octets.specs.Octets.{over}
 use Rattle.octets.specs.Lists.{some}
 use Rattle.codec.specs.declared.Status.{Status}
@@ -39,7 +39,7 @@ pub record Replies (codes before after : List ℕ) : Type 0 where
   pub level : ℕ
   pub kind : ℕ
   pub port : ℕ
-  pub status : Option Status
+  pub status : Status
   pub copies : List ℕ
   pub written : after ≡ over (reply_frame requester from tag (reply_pdu level kind code port status copies)) before
 

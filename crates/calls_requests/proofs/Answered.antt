@@ -6,7 +6,6 @@ use Prim.Native.Nat.{ℕ, ◌+◌, ◌≤◌}
 use native.Mathlib.Omega.{arith}
 use lib.ListN.{length, drop, length-drop, drop_of_length-le}
 use lib.Seq.{length-take-le}
-use Rattle.std.specs.Prelude.{Option}
 use Rattle.octets.specs.Octets.{over}
 use Rattle.octets.proofs.Cases.{by_eq}
 use Rattle.codec.specs.declared.Status.{Status}
@@ -16,7 +15,7 @@ use Rattle.codec.specs.FrameSet.{soam, pdu_of}
 use Rattle.codec.specs.Request.{malformed, request_of, copies_of, read_of, copied}
 use Rattle.codec.proofs.Short.{copies_short}
 use Rattle.codec_replies.specs.declared.ReplyFields.{ReplyFields}
-use Rattle.codec_replies.specs.Reply.{seconds_of, reply_frame, reply_pdu, reply_of, tag_of}
+use Rattle.codec_replies.specs.Reply.{reply_frame, reply_pdu, reply_of, tag_of}
 use Rattle.codec_replies.proofs.Lengths.{timer_short, pdu_length, frame_length}
 use Rattle.machine.specs.Machine.{status_of}
 use Rattle.state.specs.State.{State}
@@ -55,7 +54,7 @@ module _ (taglen to from copies : ℕ) (frame : List ℕ) (r : ReplyFields) wher
         omega (
           arith,
           pdu_length r.level r.kind r.code r.port r.status l,
-          timer_short r.kind r.code (seconds_of r.status),
+          timer_short r.kind r.code r.status.seconds,
         )
 
     pub reply_served : (on : Bool) {a : Answer} {before later : List ℕ} → later ≡ over whole before
@@ -65,14 +64,14 @@ module _ (taglen to from copies : ℕ) (frame : List ℕ) (r : ReplyFields) wher
     reply_served on w ea s = record { answered = rw reply_length at ea; stored = refl; written = w }
 
 -- the octets of a reply to a frame that arrived
-abbrev pub reply_to : Arrival → List ℕ → ℕ → Option Status → List ℕ → List ℕ
+abbrev pub reply_to : Arrival → List ℕ → ℕ → Status → List ℕ → List ℕ
 reply_to a frame code status copies =
     reply_frame a.heading.source a.replier (tag_of a.taglen frame)
     (reply_pdu a.heading.level a.heading.kind code a.port.address status copies)
 
 pub replied_served : (b : List ℕ) (a : Arrival) (frame : List ℕ) → Known b a frame → soam a.taglen frame ≡ true
     → (whom : Addressed) (s : State) (on : Bool) (code : ℕ)
-    (status : Option Status) (copies : List ℕ) {r : Answer} {left before later : List ℕ}
+    (status : Status) (copies : List ℕ) {r : Answer} {left before later : List ℕ}
     → Served (sends (cond on RepliedForwarded Replied) s (reply_to a frame code status copies)) r (image s) before later
     → on ≡ onward a whom → status ≡ status_of (own s (arrived_in b a frame)) → left ≡ image s
     → Served (replied s (arrived_in b a frame) whom code copies) r left before later

@@ -103,7 +103,7 @@ module _ {b : List ℕ} {a : Arrival} {frame : List ℕ} (k : Known b a frame) (
         room = f.room;
       }
 
-  pub decision_replied : (whom : Addressed) (on : Bool) {key : ℕ} {m : Machine} (status : Option Status) (copies : List ℕ) {r : Answer}
+  pub decision_replied : (whom : Addressed) (on : Bool) {key : ℕ} {m : Machine} (status : Status) (copies : List ℕ) {r : Answer}
       {left before later : List ℕ} → on ≡ onward a whom → key ≡ own_key (arrived_in b a frame)
       → m ≡ machine_of key (state_of b).sessions → left ≡ image (changed key d.change (state_of b))
       → status ≡ status_of (after d.change m)

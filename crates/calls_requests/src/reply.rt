@@ -33,7 +33,7 @@ pub fn reply(
     frame: &[u8],
     on: bool,
     code: Code,
-    status: Option<Status>,
+    status: Status,
     copies: usize,
 ) -> Answer
     requires taglen_bound { (a.taglen ≤ 4) × ((14 + a.taglen ≤ length frame.now) × (a.heading.level < 8)) }

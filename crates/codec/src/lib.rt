@@ -66,9 +66,9 @@ pub struct Read {
     pub copies: usize,
 }
 
-// What a reply says of an active machine: its session's side, and the seconds left. Of any other there is none.
+// What a reply says of its machine after the call: its session's side if it is active, and the seconds left, 0 where it is inactive.
 #[derive(Clone, Copy)]
 pub struct Status {
-    pub side: u8,
+    pub side: Option<u8>,
     pub seconds: u32,
 }

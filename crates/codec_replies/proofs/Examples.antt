@@ -1,6 +1,6 @@
 -- "Replies" and the loop of a data frame, by computation.
 use mathlib.Core.Path.{◌≡◌, refl}
-use Rattle.std.specs.Prelude.{Option, Some, None}
+use Rattle.std.specs.Prelude.{Some, None}
 use mathlib.Core.List.{List, [], ◌∷◌, map}
 use Prim.Native.Nat.{ℕ}
 use Rattle.octets.specs.Octets.{number, octets}
@@ -14,14 +14,14 @@ use Rattle.codec_replies.specs.Reply.{reply_frame, tag_of, looped}
 abbrev port : ℕ
 port = 0x020000000001
 
-abbrev inactive : Option Status
-inactive = None
+abbrev inactive : Status
+inactive = record { side = None; seconds = 0 }
 
-abbrev active : ℕ → Option Status
-active side = Some (record { side = side; seconds = 60 })
+abbrev active : ℕ → Status
+active side = record { side = Some side; seconds = 60 }
 
 -- the request's type, the answer's code, the machine after the call, the TLVs copied, and the reply at level 4
-abbrev replies : List (ℕ × ℕ × Option Status × List ℕ × List ℕ)
+abbrev replies : List (ℕ × ℕ × Status × List ℕ × List ℕ)
 replies =
     -- B1 and B2
     (1, 0, active cen, [], hex "80 38 01 08 01 00 02 00 00 00 00 01 25 00 05 01 00 00 00 3C 00")
@@ -30,6 +30,8 @@ replies =
     ∷ (3, 0, active external, [], hex "80 38 03 08 03 00 02 00 00 00 00 01 25 00 05 01 00 00 00 3C 00")
     ∷ (3, 0, inactive, [], hex "80 38 00 08 03 00 02 00 00 00 00 01 25 00 05 01 00 00 00 00 00")
     ∷ (1, 6, inactive, hex "0A 00 00", hex "80 38 04 08 01 06 02 00 00 00 00 01 25 00 05 01 00 00 00 00 0A 00 00 00")
+    -- the seconds are written as they are given
+    ∷ (3, 0, record { side = None; seconds = 60 }, [], hex "80 38 00 08 03 00 02 00 00 00 00 01 25 00 05 01 00 00 00 3C 00")
     -- type 2 has no timer
     ∷ (2, 0, inactive, [], hex "80 38 00 08 02 00 02 00 00 00 00 01 00")
     ∷ (2, 7, active external, [], hex "80 38 03 08 02 07 02 00 00 00 00 01 00")

@@ -7,11 +7,10 @@ use native.Mathlib.Omega.{arith}
 use lib.Dec.{eqb}
 use lib.ListN.{length, take, drop, length-append, length-drop}
 use lib.Seq.{length-take-le}
-use Rattle.std.specs.Prelude.{Option}
 use Rattle.octets.specs.Octets.{octets}
 use Rattle.codec.specs.declared.Status.{Status}
 use Rattle.codec.specs.FrameSet.{destination, group}
-use Rattle.codec_replies.specs.Reply.{header, timer_tlv, carries_timer, timer_part, seconds_of, reply_pdu, reply_frame, looped}
+use Rattle.codec_replies.specs.Reply.{header, timer_tlv, carries_timer, timer_part, reply_pdu, reply_frame, looped}
 
 pub timer_short : (kind code seconds : ℕ) → length (timer_part kind code seconds) ≤ 8
 unfolding timer_part timer_tlv octets
@@ -25,8 +24,8 @@ no_timer : (kind seconds : ℕ) → timer_part kind 1 seconds ≡ []
 unfolding timer_part carries_timer
 no_timer kind seconds = rw (and-false (eqb kind 1 || eqb kind 3))
 
-pub pdu_length : (level kind code port : ℕ) (status : Option Status) (copies : List ℕ)
-    → length (reply_pdu level kind code port status copies) ≡ 13 + length (timer_part kind code (seconds_of status)) + length copies
+pub pdu_length : (level kind code port : ℕ) (status : Status) (copies : List ℕ)
+    → length (reply_pdu level kind code port status copies) ≡ 13 + length (timer_part kind code status.seconds) + length copies
 unfolding reply_pdu header octets
 pdu_length level kind code port status copies = simp length-append (omega arith)
 
@@ -35,7 +34,7 @@ pub frame_length : (requester from : ℕ) (tag pdu : List ℕ)
 unfolding reply_frame octets
 frame_length requester from tag pdu = simp length-append (omega arith)
 
-module _ (requester from level kind port : ℕ) (tag : List ℕ) (status : Option Status) where
+module _ (requester from level kind port : ℕ) (tag : List ℕ) (status : Status) where
   -- the reply to a well-formed request is at most eight octets longer than the request, n being the length of its PDU
   pub reply_short : (code : ℕ) (copies : List ℕ) (n : ℕ) → length copies + 13 ≤ n
       → length (reply_frame requester from tag (reply_pdu level kind code port status copies)) ≤ 14 + length tag + n + 8
@@ -44,7 +43,7 @@ module _ (requester from level kind port : ℕ) (tag : List ℕ) (status : Optio
         arith,
         frame_length requester from tag (reply_pdu level kind code port status copies),
         pdu_length level kind code port status copies,
-        timer_short kind code (seconds_of status),
+        timer_short kind code status.seconds,
         h,
       )
 
@@ -55,7 +54,7 @@ module _ (requester from level kind port : ℕ) (tag : List ℕ) (status : Optio
         arith,
         frame_length requester from tag (reply_pdu level kind 1 port status []),
         pdu_length level kind 1 port status [],
-        ap (λ (l : List ℕ). length l) (no_timer kind (seconds_of status)),
+        ap (λ (l : List ℕ). length l) (no_timer kind status.seconds),
       )
 
 -- a looped frame is as long as it was

@@ -15,7 +15,7 @@ use Rattle.codec_replies.specs.declared.ReplyFields.{ReplyFields}
 use Rattle.codec_tlvs.specs.Tlv.{parse, unknowns, tlv_list}
 use Rattle.codec.specs.Request.{offset_of, tlvs_of, copies_of}
 use Rattle.codec.specs.Request.{copied}
-use Rattle.codec_replies.specs.Reply.{flags, flags_by, header, timer_tlv, carries_timer, timer_part, seconds_of, reply_of}
+use Rattle.codec_replies.specs.Reply.{flags, flags_by, header, timer_tlv, carries_timer, timer_part, reply_of}
 
 -- what a writer of nothing, and of the timer TLV, leaves of o
 abbrev pub Written : List ℕ → List ℕ → ℕ → List ℕ → Type 0
@@ -81,6 +81,6 @@ flags_told r count request e f = rw (← e, f)
 
 pub reply_length : (r : ReplyFields) (count : ℕ) (request : List ℕ)
     → length (reply_of r count request)
-    ≡ 13 + length (timer_part r.kind r.code (seconds_of r.status)) + length (copied count request)
+    ≡ 13 + length (timer_part r.kind r.code r.status.seconds) + length (copied count request)
 unfolding reply_of
 reply_length r count request = pdu_length r.level r.kind r.code r.port r.status (copied count request)

@@ -12,7 +12,7 @@ use Rattle.octets.proofs.Over.{then_over, length_over}
 use Rattle.codec_replies.specs.declared.ReplyFields.{ReplyFields}
 use Rattle.codec.specs.FrameSet.{oam_type, pdu_of}
 use Rattle.codec.specs.Request.{copied}
-use Rattle.codec_replies.specs.Reply.{seconds_of, reply_of, reply_frame, tag_of}
+use Rattle.codec_replies.specs.Reply.{reply_of, reply_frame, tag_of}
 use Rattle.codec_replies.proofs.Lengths.{timer_short}
 use Rattle.codec_replies.proofs.Parts.{reply_length}
 
@@ -37,7 +37,7 @@ module _ (taglen : ℕ) (f : List ℕ) (long : 14 + taglen ≤ length f) where
           room,
           fits,
           reply_length r count (pdu_of taglen f),
-          timer_short r.kind r.code (seconds_of r.status),
+          timer_short r.kind r.code r.status.seconds,
         )
 
     pub frame_written : (tp pp : List ℕ) {n m : ℕ} {x y : List ℕ} → tp ≡ tag_of taglen f → pp ≡ pdu_of taglen f

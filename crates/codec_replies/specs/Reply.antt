@@ -7,16 +7,20 @@ use Rattle.codec_replies.specs.declared.ReplyFields.{ReplyFields}
 use Rattle.codec.specs.Request.{llr, copied}
 use Rattle.codec.specs.FrameSet.{destination, external, group, oam_type}
 
--- REPLY-7, REPLY-8: flag bit 1 is set if the machine is active, in types 1, 2 and 3; bit 2 with it, if the session's side is External.
-unfoldable pub active_flags : ℕ → Option Status → ℕ
-active_flags kind None = 0
-active_flags kind (Some status) = cond (within 1 3 kind) (cond (eqb status.side external) 3 1) 0
+-- REPLY-7, REPLY-8: flag bit 1 is set if the machine is active, so that its session has a side; bit 2 with it, if that is External.
+abbrev pub side_flags : Option ℕ → ℕ
+side_flags None = 0
+side_flags (Some side) = cond (eqb side external) 3 1
+
+-- REPLY-7: both in types 1, 2 and 3 alone.
+unfoldable pub active_flags : ℕ → Status → ℕ
+active_flags kind status = cond (within 1 3 kind) (side_flags status.side) 0
 
 -- REPLY-9, REPLY-10: flag bit 3 is set if at least one unknown TLV is copied; bits 4 to 8 are 0.
-unfoldable pub flags_by : ℕ → Option Status → Bool → ℕ
+unfoldable pub flags_by : ℕ → Status → Bool → ℕ
 flags_by kind status copied = active_flags kind status + cond copied 4 0
 
-unfoldable pub flags : ℕ → Option Status → List ℕ → ℕ
+unfoldable pub flags : ℕ → Status → List ℕ → ℕ
 flags kind status copies = flags_by kind status (not (eqb (length copies) 0))
 
 -- REPLY-5: octet 1 is the level times 32; then opcode 56, flags, offset 8, message type, response code, and the port's address.
@@ -34,16 +38,11 @@ carries_timer kind code = (eqb kind 1 || eqb kind 3) && not (eqb code 1)
 unfoldable pub timer_part : ℕ → ℕ → ℕ → List ℕ
 timer_part kind code seconds = cond (carries_timer kind code) (timer_tlv seconds) []
 
--- REPLY-12: the seconds that the timer TLV has: those left, 0 if the machine is inactive.
-abbrev pub seconds_of : Option Status → ℕ
-seconds_of None = 0
-seconds_of (Some status) = status.seconds
-
 -- REPLY-5, REPLY-11, REPLY-14, REPLY-17: twelve octets, the timer TLV where it is carried, the copies, one End, no padding or FCS (UNIT-7).
--- (What is copied is said where the reply is asked for.)
-unfoldable pub reply_pdu : ℕ → ℕ → ℕ → ℕ → Option Status → List ℕ → List ℕ
+-- (What is copied, and that an inactive machine has 0 seconds, is said where the reply is asked for.)
+unfoldable pub reply_pdu : ℕ → ℕ → ℕ → ℕ → Status → List ℕ → List ℕ
 reply_pdu level kind code port status copies =
-    header level (flags kind status copies) kind code port ++ timer_part kind code (seconds_of status) ++ copies ++ (0 ∷ [])
+    header level (flags kind status copies) kind code port ++ timer_part kind code status.seconds ++ copies ++ (0 ∷ [])
 
 -- REPLY-5, REPLY-14: the PDU of a reply that copies so many octets of its request.
 unfoldable pub reply_of : ReplyFields → ℕ → List ℕ → List ℕ

@@ -3,11 +3,11 @@ ghost use Rattle.std.specs.Prelude.{◌≡◌, ◌+◌, ◌<◌, ◌≤◌, leng
 ghost use Rattle.octets.specs.Octets.{over};
 ghost use Rattle.codec.specs.FrameSet.{pdu_of};
 ghost use Rattle.codec.specs.Request.{copied};
-ghost use Rattle.codec_replies.specs.Reply.{carries_timer, seconds_of, timer_part, reply_of, reply_frame, tag_of};
+ghost use Rattle.codec_replies.specs.Reply.{carries_timer, timer_part, reply_of, reply_frame, tag_of};
 
 use crate::ReplyFields;
 use crate::reply::{flags_of, put_head, put_header, put_timer};
-use codec::{ACTIVATE, STATE, Status, first_tlv};
+use codec::{ACTIVATE, STATE, first_tlv};
 use codec_tlvs::copy_unknown;
 
 // The code of the reply to a malformed request.
@@ -18,13 +18,6 @@ fn carries_timer(kind: u8, code: u8) -> bool
     ensures { result ≡ carries_timer kind code }
 {
     code != MALFORMED && (kind == ACTIVATE || kind == STATE)
-}
-
-// The seconds of the timer TLV.
-fn seconds_of(status: Option<Status>) -> u32
-    ensures { result ≡ seconds_of status }
-{
-    status.map_or(0, |s| s.seconds)
 }
 
 // The timer TLV where it is carried, at the front of out; answers how many octets that is.
@@ -60,8 +53,7 @@ fn put_reply(out: &mut [u8], r: ReplyFields, count: usize, request: &[u8]) -> us
 {
     let flagged = flags_of(r.kind, r.status, count != 0);
     put_header(&mut out[..], r.level, flagged, r.kind, r.code, r.port);
-    let seconds = seconds_of(r.status);
-    let n = 12 + put_timer_part(&mut out[12..], r.kind, r.code, seconds);
+    let n = 12 + put_timer_part(&mut out[12..], r.kind, r.code, r.status.seconds);
     let m = n + put_copies(&mut out[n..], count, request);
     octets::copy_into(&mut out[m..], &[0u8]);
     m + 1

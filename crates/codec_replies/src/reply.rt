@@ -62,12 +62,12 @@ pub fn put_looped(out: &mut [u8], port: u64, to: u64, frame: &[u8]) -> usize
 }
 
 // Bits 1 and 2 of the flags.
-fn active_flags(kind: u8, status: Option<Status>) -> u8
+fn active_flags(kind: u8, status: Status) -> u8
     ensures { (result ≡ active_flags kind status) × (result < 4) }
 {
-    match status {
-        Some(s) if ACTIVATE <= kind && kind <= STATE => {
-            if s.side == EXTERNAL {
+    match status.side {
+        Some(side) if ACTIVATE <= kind && kind <= STATE => {
+            if side == EXTERNAL {
                 ACTIVE_EXTERNAL
             } else {
                 ACTIVE
@@ -78,7 +78,7 @@ fn active_flags(kind: u8, status: Option<Status>) -> u8
 }
 
 // The flags octet of a reply: `copied` is whether an unknown TLV was copied.
-pub fn flags_of(kind: u8, status: Option<Status>, copied: bool) -> u8
+pub fn flags_of(kind: u8, status: Status, copied: bool) -> u8
     ensures { result ≡ flags_by kind status copied }
 {
     let flags = active_flags(kind, status);

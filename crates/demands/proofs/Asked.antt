@@ -6,7 +6,6 @@ use Prim.Native.Nat.{ℕ, ◌*◌}
 use lib.Dec.{eqb}
 use lib.ListN.{length}
 use borrow.Author.Tests.{eq-eqb, le-ltb}
-use Rattle.std.specs.Prelude.{Option}
 use Rattle.octets.specs.Lists.{within}
 use Rattle.codec.specs.declared.FrameSet.{FrameSet}
 use Rattle.codec.specs.declared.Addressed.{Addressed}
@@ -116,7 +115,7 @@ module _ (keys : ℕ) (w : World) (port side : ℕ) (set : FrameSet) (taglen : �
       ∙ rw (is, eq-eqb (level_of (pdu_of taglen f)) (level_of (pdu_of taglen f)) refl, eq-eqb side side refl, good)
 
   -- A State reply says the status of the machine.
-  pub state_says : {status : Option Status} → Carries w port side set taglen f StateRequest → is_prohibited m ≡ false → status_of m ≡ status
+  pub state_says : {status : Status} → Carries w port side set taglen f StateRequest → is_prohibited m ≡ false → status_of m ≡ status
       → (call keys w (frame port side f out)).octets
       ≡ reply_frame (source f) (port_numbered port w.plan).address (tag_of taglen f)
       (reply_pdu (level_of (pdu_of taglen f)) (type_of (pdu_of taglen f)) 0 (port_numbered port w.plan).address status

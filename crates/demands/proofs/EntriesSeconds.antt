@@ -74,7 +74,7 @@ module _ (keys : ℕ) (big : 33 * 2 ^ 48 ≤ keys) where
         → x.out
         ≡ over (reply_frame (source f) (port_numbered port (world_in before).plan).address (tag_of taglen' f)
         (reply_pdu (level_of (pdu_of taglen' f)) (type_of (pdu_of taglen' f)) 0 (port_numbered port (world_in before).plan).address
-        (Some (record { side = side; seconds = (seconds * 1000 - elapsed_over keys (world_in from) cs + 999) / 1000 }))
+        (record { side = Some side; seconds = (seconds * 1000 - elapsed_over keys (world_in from) cs + 999) / 1000 })
         (copies_of (pdu_of taglen' f)))) out'
     unfolding seen lent status_of
     entries_seconds_told free q is good space alone low free' q' same =

@@ -15,7 +15,7 @@ use Rattle.octets.specs.Lists.{within}
 use Rattle.codec.specs.declared.Status.{Status}
 use Rattle.codec.specs.FrameSet.{external}
 use Rattle.codec_tlvs.specs.Tlv.{Tlv, unknowns, tlv_octets, tlv_list}
-use Rattle.codec_replies.specs.Reply.{active_flags, flags_by, flags, header, timer_part, seconds_of, reply_pdu, reply_frame}
+use Rattle.codec_replies.specs.Reply.{side_flags, active_flags, flags_by, flags, header, timer_part, reply_pdu, reply_frame}
 use Rattle.demands.specs.LaterRuns.{copied_bit, Replies}
 
 bit_is : (ts : List Tlv) → cond (not (eqb (length (tlv_list ts)) 0)) 4 0 ≡ copied_bit ts
@@ -23,22 +23,25 @@ unfolding tlv_list copied_bit tlv_octets
 bit_is [] = refl
 bit_is (t ∷ ts) = rw (ne_eqb (length (tlv_list (t ∷ ts))) 0 (λ z. omega (arith, z)))
 
-active_few : (kind : ℕ) (status : Option Status) → active_flags kind status < 4
+active_few : (kind : ℕ) (status : Status) → active_flags kind status < 4
 unfolding active_flags
-active_few kind None = omega arith
-active_few kind (Some status) = go (within 1 3 kind) (eqb status.side external)
+active_few kind status = go (within 1 3 kind) status.side
   where
-    go : (a b : Bool) → cond a (cond b 3 1) 0 < 4
-    go true true = omega arith
-    go true false = omega arith
-    go false b = omega arith
+    bits : (b : Bool) → cond b 3 1 < 4
+    bits true = omega arith
+    bits false = omega arith
 
-module _ (requester from level kind code port : ℕ) (tag : List ℕ) (status : Option Status) where
+    go : (a : Bool) (side : Option ℕ) → cond a (side_flags side) 0 < 4
+    go true (Some side) = bits (eqb side external)
+    go true None = omega arith
+    go false side = omega arith
+
+module _ (requester from level kind code port : ℕ) (tag : List ℕ) (status : Status) where
   abbrev start : List ℕ
   start = octets 6 requester ++ octets 6 from ++ tag ++ octets 2 0x8902 ++ (level * 32 ∷ 56 ∷ [])
 
   abbrev rest : List ℕ
-  rest = (8 ∷ kind ∷ code ∷ octets 6 port) ++ timer_part kind code (seconds_of status)
+  rest = (8 ∷ kind ∷ code ∷ octets 6 port) ++ timer_part kind code status.seconds
 
   pdu_is : (ts : List Tlv) → reply_pdu level kind code port status (tlv_list ts)
       ≡ (level * 32 ∷ 56 ∷ []) ++ ((active_flags kind status + copied_bit ts) ∷ rest) ++ tlv_list ts ++ (0 ∷ [])

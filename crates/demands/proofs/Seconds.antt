@@ -51,7 +51,7 @@ module _ (keys : ℕ) (p : ℕ) (s : FrameSet) (x : ℕ) where
       (a : is_left_alone keys p s x w cs ≡ true) (low : elapsed_over keys w cs < left) where
     -- So it is reported: rounded up.
     pub seconds_left_lem : status_of ((world_after keys w cs).machine p s x)
-        ≡ Some (record { side = side; seconds = (left - elapsed_over keys w cs + 999) / 1000 })
+        ≡ record { side = Some side; seconds = (left - elapsed_over keys w cs + 999) / 1000 }
     unfolding status_of
     seconds_left_lem = rw (time_left w cs level side left tag m a low)
 

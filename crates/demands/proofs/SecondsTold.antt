@@ -46,7 +46,7 @@ module _ (keys : ℕ) (w : World) (port side : ℕ) (set : FrameSet) (taglen sec
       → (call keys later (frame port side' f out')).octets
       ≡ reply_frame (source f) (port_numbered port later.plan).address (tag_of taglen' f)
       (reply_pdu (level_of (pdu_of taglen' f)) (type_of (pdu_of taglen' f)) 0 (port_numbered port later.plan).address
-      (Some (record { side = side; seconds = (seconds * 1000 - elapsed_over keys opens cs + 999) / 1000 }))
+      (record { side = Some side; seconds = (seconds * 1000 - elapsed_over keys opens cs + 999) / 1000 })
       (copies_of (pdu_of taglen' f)))
   seconds_told free q is good space alone low free' q' same =
       let m : _ = opened keys w port side set taglen g out free q is good space in

@@ -1,5 +1,5 @@
 -- The machine (MACHINE): one machine, that of one port, frame set and source address, and nothing else.
-use Rattle.std.specs.Prelude.{List, Bool, true, false, cond, ◌&&◌, ℕ, ◌+◌, ◌-◌, ◌*◌, ◌/◌, eqb, leb, Option, Some, None}
+use Rattle.std.specs.Prelude.{List, Bool, true, false, cond, ◌&&◌, ℕ, ◌+◌, ◌-◌, ◌*◌, ◌/◌, eqb, leb, Some, None}
 use Rattle.octets.specs.Lists.{within}
 use Rattle.codec.specs.declared.Status.{Status}
 use Rattle.machine.specs.declared.Fate.{Fate}
@@ -76,15 +76,15 @@ deactivate level side (inactive owed) = gets 5 (inactive owed)
 deactivate level side (active own-level own-side left tag) =
     cond (eqb level own-level && eqb side own-side) (gets 0 (inactive nothing)) (gets 7 (active own-level own-side left tag))
 
--- REPLY-7, REPLY-12: what a reply says of a machine that is not active: nothing, and so 0 seconds.
-unfoldable pub idle : Option Status
-idle = None
+-- REPLY-7, REPLY-12: what a reply says of a machine that is not active: no side, and 0 seconds.
+unfoldable pub idle : Status
+idle = record { side = None; seconds = 0 }
 
--- REPLY-7, REPLY-8, REPLY-12: what a reply says of a machine: of an active one its side and the seconds left, a started one counted whole.
-unfoldable pub status_of : Machine → Option Status
+-- REPLY-7, REPLY-8, REPLY-12: what a reply says of a machine: its side if it is active, and the seconds left, a started one counted whole.
+unfoldable pub status_of : Machine → Status
 status_of (prohibited owed) = idle
 status_of (inactive owed) = idle
-status_of (active level side left tag) = Some (record { side = side; seconds = (left + 999) / 1000 })
+status_of (active level side left tag) = record { side = Some side; seconds = (left + 999) / 1000 }
 
 -- ---- data
 

@@ -86,6 +86,6 @@ seconds_left_are_rounded_up = refl
 
 status_of_a_machine :
     map status_of (Inactive ∷ Active (session 1001 0) ∷ []) ≡
-    None ∷ Some (record { side = cen; seconds = 2 }) ∷ []
+    record { side = None; seconds = 0 } ∷ record { side = Some cen; seconds = 2 } ∷ []
 unfolding status_of seconds_left
 status_of_a_machine = refl

@@ -1,6 +1,6 @@
 -- The machine (MACHINE): what a request and a data frame do to the session of one machine.
 use Rattle.std.specs.Prelude.{ℕ, ◌+◌, ◌*◌, ◌/◌, ◌^◌, Bool, cond, ◌&&◌, ◌==◌, nat_le}
-use Rattle.std.specs.Prelude.{Option, Some, None}
+use Rattle.std.specs.Prelude.{Some, None}
 use Rattle.octets.specs.Lists.{within}
 use Rattle.codec.specs.FrameSet.{external}
 use Rattle.codec.specs.declared.Status.{Status}
@@ -181,7 +181,7 @@ data_event side = cond (side == external) ingress_data egress_data
 unfoldable pub seconds_left : ℕ → ℕ
 seconds_left ms = (ms + 999) / 1000
 
--- REPLY-7, REPLY-8, REPLY-12: what a reply says of a machine: of an active one its session's side and the seconds left, else nothing.
-unfoldable pub status_of : Machine → Option Status
-status_of Inactive = None
-status_of (Active s) = Some (record { side = s.side; seconds = seconds_left s.left })
+-- REPLY-7, REPLY-8, REPLY-12: what a reply says of a machine: its session's side if it is active, and the seconds left, 0 if inactive.
+unfoldable pub status_of : Machine → Status
+status_of Inactive = record { side = None; seconds = 0 }
+status_of (Active s) = record { side = Some s.side; seconds = seconds_left s.left }

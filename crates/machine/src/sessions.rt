@@ -44,15 +44,18 @@ pub fn seconds_left(ms: u32) -> u32
     ms.div_ceil(SECOND)
 }
 
-pub fn status_of(m: Machine) -> Option<Status>
+pub fn status_of(m: Machine) -> Status
     ensures { result ≡ status_of m }
 {
     match m {
-        Machine::Inactive => None,
-        Machine::Active(s) => Some(Status {
-            side: s.side,
+        Machine::Inactive => Status {
+            side: None,
+            seconds: 0,
+        },
+        Machine::Active(s) => Status {
+            side: Some(s.side),
             seconds: seconds_left(s.left),
-        }),
+        },
     }
 }
 
@@ -68,7 +71,7 @@ pub fn after(change: Change, m: Machine) -> Machine
 }
 
 // What a reply says of the machine after a change.
-pub fn status_after(change: Change, m: Machine) -> Option<Status>
+pub fn status_after(change: Change, m: Machine) -> Status
     ensures { result ≡ status_of (after change m) }
 {
     status_of(after(change, m))

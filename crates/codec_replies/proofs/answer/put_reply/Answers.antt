@@ -1,6 +1,6 @@
 use Rattle.codec_replies.proofs.Parts.{parts_over, header_length, flags_told, reply_length}
 use Rattle.codec.specs.Request.{copied}
-use Rattle.codec_replies.specs.Reply.{header, timer_part, seconds_of, reply_of, reply_pdu}
+use Rattle.codec_replies.specs.Reply.{header, timer_part, reply_of, reply_pdu}
 use Prim.Native.Nat.{ℕ}
 use mathlib.Core.List.{List}
 use native.Mathlib.Omega.{arith}
@@ -49,13 +49,13 @@ returns c =
     let r : _ = a.r in
     let q : List ℕ = a.request.now in
     let pre : _ = c.requires.1 in
-    let timer : _ = rw c.seconds_of-seconds.ensures at c.put_timer_part-n.ensures in
+    let timer : _ = c.put_timer_part-n.ensures in
     let copies : _ = c.put_copies.ensures in
     let told : _ = flags_told r a.count q pre.1 c.flags_of-flagged.ensures in
     let h : List ℕ = header r.level c.flags_of-flagged.result r.kind r.code r.port in (
       omega (arith, reply_length r a.count q, timer.0, copies.0),
       rw told
-          (parts_over h (timer_part r.kind r.code (seconds_of r.status)) (copied a.count q) a.out.now _ _
+          (parts_over h (timer_part r.kind r.code r.status.seconds) (copied a.count q) a.out.now _ _
           (header_length r.level _ r.kind r.code r.port) (omega (arith, timer.0)) (omega (arith, copies.0))
           (omega (arith, pre, timer, copies.0)) c.put_header.ensures timer.1.1 copies.1 c.copy_into.ensures),
     )
