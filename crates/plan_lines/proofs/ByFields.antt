@@ -24,6 +24,7 @@ use Rattle.plan_lines.specs.CappedLine.{capped, said}
 use Rattle.plan_lines.specs.Fields.{found}
 use Rattle.plan_lines.specs.declared.Said.TheVariants.{OfPort, OfFlow, OfMp}
 use Rattle.plan_lines.proofs.Numbers.{read_number}
+use Rattle.plan_lines.proofs.Words.{by_test}
 
 -- a field that is read if it passes a test
 pub passed : (b : Bool) (x : ℕ) {n : ℕ} → cond b (Some x) None ≡ Some n → (b ≡ true) × (n ≡ x)
@@ -60,16 +61,16 @@ module _ (f : List ℕ) where
     no_word h = failed (leb 1 (listed words f)) (listed words f) h
 
 module _ (number kind address : List ℕ) where
-  pub port_no_number : read_number number ≡ None → None ≡ said (as_port ([] ∷ number ∷ kind ∷ address ∷ []))
+  pub port_no_kind : found (listed port_kinds kind) ≡ None → None ≡ said (as_port ([] ∷ number ∷ kind ∷ address ∷ []))
   unfolding as_port field said
-  port_no_number h = simp (no_number number h)
+  port_no_kind h = by_test (is_number number) (λ t. simp (t, no_word kind port_kinds h)) (λ t. simp t)
 
-  module _ {n : ℕ} (en : read_number number ≡ Some n) where
-    pub port_no_kind : found (listed port_kinds kind) ≡ None → None ≡ said (as_port ([] ∷ number ∷ kind ∷ address ∷ []))
+  module _ {k : ℕ} (ek : found (listed port_kinds kind) ≡ Some k) where
+    pub port_no_number : read_number number ≡ None → None ≡ said (as_port ([] ∷ number ∷ kind ∷ address ∷ []))
     unfolding as_port field said
-    port_no_kind h = simp ((a_number number en).0, no_word kind port_kinds h)
+    port_no_number h = simp (no_number number h)
 
-    module _ {k : ℕ} (ek : found (listed port_kinds kind) ≡ Some k) where
+    module _ {n : ℕ} (en : read_number number ≡ Some n) where
       pub port_no_address : read_address address ≡ None → None ≡ said (as_port ([] ∷ number ∷ kind ∷ address ∷ []))
       unfolding as_port field said
       port_no_address h = simp ((a_number number en).0, (a_word kind port_kinds ek).0, no_address address h)
@@ -84,16 +85,16 @@ module _ (number kind address : List ℕ) where
           rw (p.1, q.1, r.1) (simp (p.0, q.0, r.0))
 
 module _ (flow kind level : List ℕ) where
-  pub mp_no_flow : read_number flow ≡ None → None ≡ said (as_mp ([] ∷ flow ∷ kind ∷ level ∷ []))
+  pub mp_no_kind : found (listed mp_kinds kind) ≡ None → None ≡ said (as_mp ([] ∷ flow ∷ kind ∷ level ∷ []))
   unfolding as_mp field said
-  mp_no_flow h = simp (no_number flow h)
+  mp_no_kind h = by_test (is_number flow) (λ t. simp (t, no_word kind mp_kinds h)) (λ t. simp t)
 
-  module _ {n : ℕ} (en : read_number flow ≡ Some n) where
-    pub mp_no_kind : found (listed mp_kinds kind) ≡ None → None ≡ said (as_mp ([] ∷ flow ∷ kind ∷ level ∷ []))
+  module _ {k : ℕ} (ek : found (listed mp_kinds kind) ≡ Some k) where
+    pub mp_no_flow : read_number flow ≡ None → None ≡ said (as_mp ([] ∷ flow ∷ kind ∷ level ∷ []))
     unfolding as_mp field said
-    mp_no_kind h = simp ((a_number flow en).0, no_word kind mp_kinds h)
+    mp_no_flow h = simp (no_number flow h)
 
-    module _ {k : ℕ} (ek : found (listed mp_kinds kind) ≡ Some k) where
+    module _ {n : ℕ} (en : read_number flow ≡ Some n) where
       pub mp_no_level : read_number level ≡ None → None ≡ said (as_mp ([] ∷ flow ∷ kind ∷ level ∷ []))
       unfolding as_mp field said
       mp_no_level h = simp ((a_number flow en).0, (a_word kind mp_kinds ek).0, no_number level h)
@@ -107,22 +108,25 @@ module _ (flow kind level : List ℕ) where
           rw (p.1, q.1, r.1) (simp (p.0, q.0, r.0))
 
 module _ (number port kind vid : List ℕ) where
-  pub flow_no_number : read_number number ≡ None → None ≡ said (as_flow ([] ∷ number ∷ port ∷ kind ∷ vid ∷ []))
+  pub flow_no_kind : found (listed flow_kinds kind) ≡ None
+      → None ≡ said (as_flow ([] ∷ number ∷ port ∷ kind ∷ vid ∷ []))
   unfolding as_flow field said
-  flow_no_number h = simp (no_number number h)
+  flow_no_kind h =
+      by_test (is_number number)
+      (λ t. by_test (is_number port) (λ u. simp (t, u, no_word kind flow_kinds h)) (λ u. simp (t, u)))
+      (λ t. simp t)
 
-  module _ {n : ℕ} (en : read_number number ≡ Some n) where
-    pub flow_no_port : read_number port ≡ None → None ≡ said (as_flow ([] ∷ number ∷ port ∷ kind ∷ vid ∷ []))
+  module _ {k : ℕ} (ek : found (listed flow_kinds kind) ≡ Some k) where
+    pub flow_no_number : read_number number ≡ None → None ≡ said (as_flow ([] ∷ number ∷ port ∷ kind ∷ vid ∷ []))
     unfolding as_flow field said
-    flow_no_port h = simp ((a_number number en).0, no_number port h)
+    flow_no_number h = simp (no_number number h)
 
-    module _ {p : ℕ} (ep : read_number port ≡ Some p) where
-      pub flow_no_kind : found (listed flow_kinds kind) ≡ None
-          → None ≡ said (as_flow ([] ∷ number ∷ port ∷ kind ∷ vid ∷ []))
+    module _ {n : ℕ} (en : read_number number ≡ Some n) where
+      pub flow_no_port : read_number port ≡ None → None ≡ said (as_flow ([] ∷ number ∷ port ∷ kind ∷ vid ∷ []))
       unfolding as_flow field said
-      flow_no_kind h = simp ((a_number number en).0, (a_number port ep).0, no_word kind flow_kinds h)
+      flow_no_port h = simp ((a_number number en).0, no_number port h)
 
-      module _ {k : ℕ} (ek : found (listed flow_kinds kind) ≡ Some k) where
+      module _ {p : ℕ} (ep : read_number port ≡ Some p) where
         pub flow_no_vid : read_number vid ≡ None → None ≡ said (as_flow ([] ∷ number ∷ port ∷ kind ∷ vid ∷ []))
         unfolding as_flow field said
         flow_no_vid h =

@@ -31,8 +31,8 @@ fn three_of(s: &[u8]) -> Option<(&[u8], &[u8], &[u8])>
 fn port_line(number: &[u8], kind: &[u8], address: &[u8]) -> Option<Said>
     ensures { result ≡ said (as_port ([] ∷ number.now ∷ kind.now ∷ address.now ∷ [])) }
 {
-    let number = number_of(number)?;
     let kind = port_kind(kind)?;
+    let number = number_of(number)?;
     let address = address_of(address)?;
     Some(Said::OfPort(number, kind, address))
 }
@@ -41,9 +41,9 @@ fn flow_line(number: &[u8], port: &[u8], kind: &[u8], vid: &[u8]) -> Option<Said
     ensures { result
         ≡ said (as_flow ([] ∷ number.now ∷ port.now ∷ kind.now ∷ vid.now ∷ [])) }
 {
+    let kind = flow_kind(kind)?;
     let number = number_of(number)?;
     let port = number_of(port)?;
-    let kind = flow_kind(kind)?;
     let vid = number_of(vid)?;
     Some(Said::OfFlow(number, port, kind, vid))
 }
@@ -51,8 +51,8 @@ fn flow_line(number: &[u8], port: &[u8], kind: &[u8], vid: &[u8]) -> Option<Said
 fn mp_line(flow: &[u8], kind: &[u8], level: &[u8]) -> Option<Said>
     ensures { result ≡ said (as_mp ([] ∷ flow.now ∷ kind.now ∷ level.now ∷ [])) }
 {
-    let flow = number_of(flow)?;
     let kind = mp_kind(kind)?;
+    let flow = number_of(flow)?;
     let level = number_of(level)?;
     Some(Said::OfMp(flow, kind, level))
 }
