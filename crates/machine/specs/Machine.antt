@@ -97,6 +97,22 @@ code_octet UnknownMessageType = 10
 code_octet UnknownError = 255
 code_octet (Other n) = n
 
+-- and the code of each octet, by its name if it has one
+unfoldable pub code_of : ℕ → Code
+code_of octet =
+    cond (octet == 0) NoError
+    (cond (octet == 1) MalformedRequest
+    (cond (octet == 2) MaxSessionsExceeded
+    (cond (octet == 4) AlreadyActive
+    (cond (octet == 5) AlreadyInactive
+    (cond (octet == 6) Unsupported
+    (cond (octet == 7) WrongMp
+    (cond (octet == 8) Timeout
+    (cond (octet == 9) Prohibited
+    (cond (octet == 10) UnknownMessageType
+    (cond (octet == 255) UnknownError
+    (Other octet)))))))))))
+
 -- the answer to a request in numbers: the octet of its code, and what becomes of the session
 pub record Decision : Type 0 where
   pub code : ℕ

@@ -1,6 +1,8 @@
 // Response codes by the names of MEF 46 Table 4.
+#![tactic(auto, unfolding(crate::specs::Machine::code_of))]
+
 ghost use Rattle.std.specs.Prelude.{◌≡◌};
-ghost use Rattle.machine.specs.Machine.{code_octet};
+ghost use Rattle.machine.specs.Machine.{code_octet, code_of};
 
 #[derive(Clone, Copy)]
 pub enum Code {
@@ -22,7 +24,8 @@ pub enum Code {
 impl Code {
     // The code that an octet stands for.
     pub fn of(octet: u8) -> Code
-        ensures { code_octet result ≡ octet }
+        ensures code { result ≡ code_of octet }
+        ensures octet { code_octet result ≡ octet }
     {
         match octet {
             0 => Code::NoError,

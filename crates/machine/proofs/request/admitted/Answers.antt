@@ -10,7 +10,7 @@ returns-then-not-good_seconds c = rw (sym c.good_seconds.ensures ∙ c.if-not-go
 
 pub returns-then-full-ne0 : goal.returns-then-full-ne0
 unfolding admitted
-returns-then-full-ne0 c = rw (sym c.good_seconds.ensures ∙ c.if-not-good_seconds.false, ne_eqb _ _ c.if-full-ne0.true) (rw c.of.ensures at c.answered-then-full-ne0.ensures)
+returns-then-full-ne0 c = rw (sym c.good_seconds.ensures ∙ c.if-not-good_seconds.false, ne_eqb _ _ c.if-full-ne0.true) (rw c.of.ensures.octet at c.answered-then-full-ne0.ensures)
 
 pub overflow_mul-seconds : goal.overflow_mul-seconds
 overflow_mul-seconds c = omega (arith, seconds_few _ (sym c.good_seconds.ensures ∙ c.if-not-good_seconds.false))
