@@ -31,7 +31,7 @@ test:
 	@host/needs.sh $(TESTS)
 	@host/test.sh
 
-# Every wrong program, many in one check; or those of some crates, as in `make wrong CRATES="codec machine"`.
+# The wrong programs, but for those that rt alone tries, many in one check; or of some crates, as in `make wrong CRATES="codec machine"`.
 wrong:
 	@host/needs.sh $(TESTS)
 	@$(MAKE) -s -C host wrong

@@ -1,6 +1,6 @@
 #!/bin/sh
 # Every check. First the gate of the kit, rt ci: the layout of the files, every proof, the wrong programs of must-fail/ and every program;
-# then all wrong programs, many in one check; then the host's programs and tests, on the library as a host links it. Each says how far it
+# then the wrong programs, many in one check; then the host's programs and tests, on the library as a host links it. Each says how far it
 # is. The last line is the sum: 'N passed, M failed'.
 cd "$(dirname "$0")/.." || exit 1
 out=$(mktemp) && status=$(mktemp) || exit 1
@@ -63,7 +63,7 @@ add "$1" "$2"
 add 0 "${bad:-0}"
 [ "${refused:-0}" -eq "$edits" ] || [ -n "$bad" ] || [ "${2:-1}" -ne 0 ] || add 0 1
 
-part 'All wrong programs, many in one check'
+part 'The wrong programs, many in one check'
 (cd host && cargo run --release --offline -q -p wrong 2>&1) | tee "$out"
 # shellcheck disable=SC2046
 add $(sum)

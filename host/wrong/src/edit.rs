@@ -15,6 +15,8 @@ pub type Files = BTreeMap<String, String>;
 pub struct Edit {
     /// The file's name without its ending.
     pub name: String,
+    /// Whether the kit tries it too.
+    pub is_of_kit: bool,
     pub swaps: Vec<Swap>,
 }
 
@@ -32,20 +34,21 @@ pub struct Place {
     pub new: String,
 }
 
-/// The folders of a crate that have its edits: those that the kit tries from nothing, and all others.
-const FOLDERS: [&str; 2] = ["must-fail", "wrong"];
+/// The folders of a crate that have its edits, and whether the kit tries those too.
+const FOLDERS: [(&str, bool); 2] = [("must-fail", true), ("wrong", false)];
 
 /// The crate's edits, by name.
 pub fn of_crate(folder: &Path) -> Result<Vec<Edit>, String> {
     let mut edits: Vec<Edit> = Vec::new();
-    for part in FOLDERS.map(|name| folder.join(name)).into_iter().filter(|part| part.is_dir()) {
+    let folders = FOLDERS.map(|(name, is_of_kit)| (folder.join(name), is_of_kit));
+    for (part, is_of_kit) in folders.into_iter().filter(|(part, _)| part.is_dir()) {
         let entries = fs::read_dir(&part).map_err(|fault| format!("{}: {fault}", part.display()))?;
         for path in
             entries.flatten().map(|entry| entry.path()).filter(|path| path.extension().is_some_and(|e| e == "edit"))
         {
             let text = fs::read_to_string(&path).map_err(|fault| format!("{}: {fault}", path.display()))?;
             let name = path.file_stem().unwrap_or_default().to_string_lossy().into_owned();
-            edits.push(Edit { name, swaps: swaps(&text) });
+            edits.push(Edit { name, is_of_kit, swaps: swaps(&text) });
         }
     }
     edits.sort_by(|a, b| a.name.cmp(&b.name));

@@ -1,4 +1,5 @@
-//! Tries every wrong program, or those of the crates that are named, or those that are. The last line is 'N passed, M failed'.
+//! Tries every wrong program, or those of the crates that are named, or those that are; what it leaves to rt it counts in a line. The last
+//! line is 'N passed, M failed'.
 //! Usage: wrong [CRATE..] [CRATE/EDIT..], in the repository or below it
 
 use std::env;

@@ -27,6 +27,10 @@ pub fn all(from: &Path, named: &[String]) -> Result<Sum, String> {
     let report = Report::new();
     let bad: Vec<&String> = subjects.iter().flat_map(|subject| &subject.bad).collect();
     bad.iter().for_each(|line| println!("  {line}"));
+    let left: usize = subjects.iter().map(|subject| subject.left).sum();
+    if left > 0 {
+        println!("  left to rt: {left} of must-fail/, with other operations");
+    }
     let queue = Queue::new(bad.len());
     let processors = thread::available_parallelism().map_or(1, usize::from);
     thread::scope(|scope| {

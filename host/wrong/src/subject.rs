@@ -19,6 +19,8 @@ pub struct Subject {
     edits: Vec<Tried>,
     /// A line for each edit that can't be tried.
     pub bad: Vec<String>,
+    /// How many edits are left to the kit.
+    pub left: usize,
     /// The names of functions as they stand, as far as they were asked for.
     names: Mutex<BTreeMap<String, Asked>>,
 }
@@ -52,7 +54,7 @@ pub fn of_repository(root: &Path, named: &[String]) -> Result<Vec<Subject>, Stri
     let wanted = listed.into_iter().filter(|one| named.is_empty() || named.iter().any(|name| krate(name) == one.name));
     let subjects: Result<Vec<Subject>, String> = wanted.map(|krate| Subject::of(root, krate, named)).collect();
     let mut subjects: Vec<Subject> =
-        subjects?.into_iter().filter(|s| !s.edits.is_empty() || !s.bad.is_empty()).collect();
+        subjects?.into_iter().filter(|s| s.has_edits() || !s.bad.is_empty() || s.left > 0).collect();
     subjects.sort_by_key(|subject| std::cmp::Reverse(subject.files.values().map(String::len).sum::<usize>()));
     Ok(subjects)
 }
@@ -66,15 +68,16 @@ impl Subject {
     fn of(root: &Path, krate: Listed, named: &[String]) -> Result<Subject, String> {
         let folder = root.join("crates").join(&krate.name);
         let files = listed::files(&folder)?;
-        let (mut edits, mut bad) = (Vec::new(), Vec::new());
+        let (mut edits, mut bad, mut left) = (Vec::new(), Vec::new(), 0);
         let sources = Sources::of(&krate.name, &files);
         for edit in edit::of_crate(&folder)?.into_iter().filter(|edit| is_named(&krate.name, &edit.name, named)) {
             match tried(&edit, &files, &sources) {
-                Ok(tried) => edits.push(tried),
+                Ok(Some(tried)) => edits.push(tried),
+                Ok(None) => left += 1,
                 Err(why) => bad.push(format!("{}/{}: BAD EDIT: {why}", krate.name, edit.name)),
             }
         }
-        Ok(Subject { krate, files, edits, bad, names: Mutex::default() })
+        Ok(Subject { krate, files, edits, bad, left, names: Mutex::default() })
     }
 
     pub fn has_edits(&self) -> bool {
@@ -122,13 +125,16 @@ impl Subject {
     }
 }
 
-fn tried(edit: &Edit, files: &Files, sources: &Sources) -> Result<Tried, String> {
+/// The edit as it is tried; none if it is left to the kit. Only such an edit may change the operations of a body.
+fn tried(edit: &Edit, files: &Files, sources: &Sources) -> Result<Option<Tried>, String> {
     let places = edit.places(files)?;
     let wrong = sources.wrong(&places)?;
-    if matches!(wrong, Wrong::Bodies(_)) && !edit.keeps_operations() {
-        return Err("it changes the operations: a right body with those would be refused too".to_string());
+    let has_other_operations = matches!(wrong, Wrong::Bodies(_)) && !edit.keeps_operations();
+    match (has_other_operations, edit.is_of_kit) {
+        (false, _) => Ok(Some(Tried { name: edit.name.clone(), places, wrong })),
+        (true, true) => Ok(None),
+        (true, false) => Err("it changes the operations: a right body with those would be refused too".to_string()),
     }
-    Ok(Tried { name: edit.name.clone(), places, wrong })
 }
 
 impl<'a> Round<'a> {

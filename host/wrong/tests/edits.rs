@@ -8,7 +8,7 @@ fn files() -> Files {
 }
 
 fn edit(text: &str) -> Edit {
-    Edit { name: "edit".to_string(), swaps: swaps(text) }
+    Edit { name: "edit".to_string(), is_of_kit: false, swaps: swaps(text) }
 }
 
 fn fault(text: &str) -> String {

@@ -49,7 +49,11 @@ fn files() -> Files {
 }
 
 fn wrong(file: &str, old: &str) -> Result<Wrong, String> {
-    let edit = Edit { name: "edit".to_string(), swaps: swaps(&format!("file: {file}\nold: {old}\nnew: x\n")) };
+    let edit = Edit {
+        name: "edit".to_string(),
+        is_of_kit: false,
+        swaps: swaps(&format!("file: {file}\nold: {old}\nnew: x\n")),
+    };
     let files = files();
     Sources::of("c", &files).wrong(&edit.places(&files)?)
 }

@@ -113,8 +113,9 @@ pub struct Ran {
 }
 
 impl Small {
-    pub fn written() -> Small {
-        let root = std::env::temp_dir().join(format!("tmavolice_wrong_{}", process::id()));
+    /// The name is for the test alone.
+    pub fn written(name: &str) -> Small {
+        let root = std::env::temp_dir().join(format!("tmavolice_wrong_{name}_{}", process::id()));
         for (name, text) in FILES {
             write(&root.join(name), text);
         }
@@ -122,8 +123,13 @@ impl Small {
     }
 
     pub fn edit(&self, name: &str, file: &str, swaps: &[(&str, &str)]) {
+        self.edit_in("wrong", name, file, swaps);
+    }
+
+    /// An edit in one of the two folders.
+    pub fn edit_in(&self, folder: &str, name: &str, file: &str, swaps: &[(&str, &str)]) {
         let pairs: String = swaps.iter().map(|(old, new)| format!("old: {old}\nnew: {new}\n")).collect();
-        write(&self.root.join(format!("crates/small/wrong/{name}.edit")), &format!("file: {file}\n{pairs}"));
+        write(&self.root.join(format!("crates/small/{folder}/{name}.edit")), &format!("file: {file}\n{pairs}"));
     }
 
     pub fn run(&self, words: &[&str]) -> Ran {
