@@ -39,11 +39,13 @@ impl Bench {
     }
 
     fn play_case(&mut self, rt: &impl Print, case: Case) -> io::Result<()> {
+        print!(rt; "{}\n  make, allow 1: ", case.title)?;
         let answer = self.start(case.plan);
-        println!(rt; "{}\n  make, allow 1: {}", case.title, self.told(answer))?;
+        println!(rt; "{}", self.told(answer))?;
         for step in case.steps {
+            print!(rt; "  {step}: ")?;
             let answer = self.call(*step);
-            println!(rt; "  {step}: {}", self.told(answer))?;
+            println!(rt; "{}", self.told(answer))?;
         }
         Ok(())
     }

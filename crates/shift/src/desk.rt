@@ -35,15 +35,16 @@ impl<W: Write> Desk<W> {
         }
     }
 
-    // The unit is made of the plan file that is named. A faulty plan is told, and there is no unit.
+    // The unit is made of the plan file that is named. A faulty plan is told, and there is no unit. The text is read where answers will
+    // be written, so that it takes no room of its own.
     pub fn is_ready<F: Files>(&mut self, files: &F, name: &[u8]) -> bool {
-        let mut room = [0; PLAN_ROOM];
-        let text = plan_text(files, name, &mut room);
-        let told = make_unit(&mut self.image, text, &mut self.out);
+        let (room, out) = self.out.split_at_mut(PLAN_ROOM);
+        let text = plan_text(files, name, room);
+        let told = make_unit(&mut self.image, text, out);
         if told == 0 {
             return true;
         }
-        let _ = self.sink.write_all(&self.out[..told]);
+        let _ = self.sink.write_all(&out[..told]);
         false
     }
 
