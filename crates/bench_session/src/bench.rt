@@ -2,8 +2,8 @@
 use crate::frames::{Frame, MOST_BEHIND};
 use crate::report::{Answer, OUT, Told};
 use crate::script::{CASES, Case};
-use crate::steps::Step;
-use std::io;
+use crate::steps::{Step, TESTER};
+use std::io::{self, Write};
 use tmavolice::{
     tmavolice_allow, tmavolice_frame, tmavolice_make, tmavolice_notice, tmavolice_prohibit,
     tmavolice_restart, tmavolice_tick,
@@ -13,9 +13,6 @@ const IMAGE: usize = 4096;
 
 // The addresses and the tag of a frame.
 const HEAD: usize = 16;
-
-// The tester is 02-00-00-00-00-AA.
-const TESTER: u8 = 0xAA;
 
 #[derive(Drop)]
 pub struct Bench {
@@ -38,14 +35,16 @@ impl Bench {
         Ok(())
     }
 
+    // Each part of a line is written by itself and at once: where the output takes no more, what came before it is there.
     fn play_case(&mut self, rt: &impl Print, case: Case) -> io::Result<()> {
-        print!(rt; "{}\n  make, allow 1: ", case.title)?;
+        let mut parts = io::writer(rt);
+        write!(parts, "{}\n  make, allow 1: ", case.title)?;
         let answer = self.start(case.plan);
-        println!(rt; "{}", self.told(answer))?;
+        writeln!(parts, "{}", self.told(answer))?;
         for step in case.steps {
-            print!(rt; "  {step}: ")?;
+            write!(parts, "{step}")?;
             let answer = self.call(*step);
-            println!(rt; "{}", self.told(answer))?;
+            writeln!(parts, "{}", self.told(answer))?;
         }
         Ok(())
     }

@@ -1,5 +1,5 @@
 // What a call answers, taken out of its number, and the words for it.
-use std::fmt;
+use std::fmt::{self, InlineText};
 
 // The octets that a call is lent for what it sends.
 pub const OUT: usize = 2008;
@@ -63,26 +63,26 @@ impl fmt::Display for Told<'_> {
             Answer::Forwarded => f.write_str("forward"),
             Answer::Dropped => f.write_str("drop"),
             Answer::Looped { length } => {
-                write!(f, "loop, {length} octets:{}", self.written(0, length))
+                write!(f, "loop, {length} octets{}", self.written(0, length))
             }
             Answer::Replied { length } => {
                 write!(
                     f,
-                    "reply, {length} octets, code {code}:{}",
+                    "reply, {length} octets, code {code}{}",
                     self.written(PDU, length)
                 )
             }
             Answer::RepliedForwarded { length } => {
                 write!(
                     f,
-                    "reply and forward, {length} octets, code {code}:{}",
+                    "reply and forward, {length} octets, code {code}{}",
                     self.written(PDU, length)
                 )
             }
             Answer::Noticed { port, side, length } => {
                 write!(
                     f,
-                    "reply, {length} octets, code {code}, port {port}, side {side}:{}",
+                    "reply, {length} octets, code {code}, port {port}, side {side}{}",
                     self.written(PDU, length)
                 )
             }
@@ -92,15 +92,27 @@ impl fmt::Display for Told<'_> {
     }
 }
 
-// Octets in hex.
+// Octets in hex, behind a colon.
 #[derive(Clone, Copy)]
 struct Hex<'a>(&'a [u8]);
 
 impl fmt::Display for Hex<'_> {
     fn fmt<W: fmt::Write>(&self, f: &mut fmt::Formatter<W>) -> fmt::Result {
+        f.write_str(":")?;
         for x in self.0 {
-            write!(f, " {x:02x}")?;
+            write!(f, " {}", HexOctet(*x))?;
         }
         Ok(())
+    }
+}
+
+// An octet in hex. Its two digits are one part: of `{:02x}` a zero before the digit would be a part by itself.
+#[derive(Clone, Copy)]
+pub struct HexOctet(pub u8);
+
+impl fmt::Display for HexOctet {
+    fn fmt<W: fmt::Write>(&self, f: &mut fmt::Formatter<W>) -> fmt::Result {
+        let digits = format_args!("{:02x}", self.0);
+        f.write_str(InlineText::<2>::of(digits).as_str())
     }
 }
