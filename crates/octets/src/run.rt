@@ -51,8 +51,17 @@ pub fn all_zero(s: &[u8]) -> bool
 }
 
 // Are the two runs the same?
+// Stays a loop: of `a == b` no operand makes the mistake that each octet is compared with the first alone.
 pub fn same_octets(a: &[u8], b: &[u8]) -> bool
     ensures { result ≡ same a.now b.now }
 {
-    a == b
+    if a.len() != b.len() {
+        return false;
+    }
+    for i in 0..a.len() {
+        if a[i] != b[i] {
+            return false;
+        }
+    }
+    true
 }

@@ -49,7 +49,7 @@ fn flow_reason(r: &Records, number: u32, port: u32, kind: u8, vid: u32) -> Resul
         return Err(Reason::OutOfRange);
     }
     let Some(p) = port_numbered(&r.ports, port) else {
-        return Err(Reason::Unnamed);
+        return Err(Reason::Unnamed); // no such port
     };
     if !good_kind(kind, p.kind) {
         return Err(Reason::OutOfRange);
@@ -68,7 +68,7 @@ fn mp_reason(r: &Records, flow: u32, level: u32) -> Result<(), Reason>
         return Err(Reason::OutOfRange);
     }
     let Some(f) = flow_numbered(&r.flows, flow) else {
-        return Err(Reason::Unnamed);
+        return Err(Reason::Unnamed); // no such flow
     };
     if f.mps[level as usize] != 0 {
         return Err(Reason::Repeated);

@@ -1,6 +1,9 @@
-use mathlib.Core.Path.{◌∙◌}
-use Rattle.octets.proofs.Words.{low_8}
+use native.Mathlib.Nat.{add_assoc, add-zero}
+use native.Mathlib.Omega.{arith}
+use lib.Seq.{get_or-drop, drop-drop}
+use Rattle.octets.specs.Octets.{low_number}
 use Rattle.octets.proofs.low.low8.Goals as goal
 
 pub returns : goal.returns
-returns c = c.from_le_bytes.ensures ∙ low_8 c.args.at c.args.s.now
+unfolding low_number
+returns c = simp (c.from_le_bytes.ensures, get_or-drop, drop-drop, add_assoc, add-zero) (omega arith)

@@ -1,5 +1,8 @@
-use mathlib.Core.Path.{◌≡◌, refl}
+use mathlib.Core.Path.{◌≡◌, refl, ap}
 use mathlib.Core.Bool.{Bool, true, false}
+use Prim.Native.Nat.{ℕ, ◌+◌}
+use native.Mathlib.Omega.{arith}
+use lib.ListN.{set}
 use Rattle.std.specs.Int.{from_bool}
 use Rattle.state.specs.Image.{bit}
 use Rattle.state_store.proofs.head.set_allowed.Goals as goal
@@ -10,4 +13,6 @@ bit_is true = refl
 bit_is false = refl
 
 pub returns : goal.returns
-returns c = rw (c.from.ensures, bit_is)
+returns c =
+    let a : _ = c.args in
+    ap (λ (x : ℕ). set a.b.now (31 + a.flow) x) (omega (arith, c.from.ensures, bit_is a.allowed))
