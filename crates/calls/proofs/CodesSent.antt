@@ -8,6 +8,8 @@ use lib.Dec.{eqb}
 use lib.ListN.{length, get_or, drop, length-append}
 use lib.Seq.{get_or_at}
 use borrow.Author.Tests.{not-true}
+use Rattle.std.specs.Prelude.{None}
+use Rattle.std.proofs.lemmas.Option.{none-some}
 use Rattle.octets.specs.Octets.{octets, over}
 use Rattle.octets.specs.Lists.{every, some}
 use Rattle.octets.proofs.Laws.{octets_length}
@@ -17,7 +19,9 @@ use Rattle.codec.specs.FrameSet.{oam_type}
 use Rattle.codec.specs.Request.{llr}
 use Rattle.codec_replies.specs.Reply.{flags, header, timer_part, reply_pdu, reply_frame}
 use Rattle.machine.specs.declared.Session.{Session}
-use Rattle.machine.specs.Machine.{is_open}
+use Rattle.machine.specs.declared.Machine.{Machine}
+use Rattle.machine.specs.declared.Machine.TheVariants.{Inactive, Active}
+use Rattle.machine.specs.Machine.{is_open, status_of}
 use Rattle.plan.specs.PlanText.{Reading, fault, planned, plan_in}
 use Rattle.state.specs.State.{State, is_allowed, good_time, good_session, notice_due, valid, first_owed}
 use Rattle.state.specs.Image.{state_of, ok_image}
@@ -36,8 +40,8 @@ use Rattle.calls.specs.declared.Answer.TheVariants.{
   Faulty,
 }
 use Rattle.calls.specs.Answer.{packed, number_of, Sent, leaves, sends}
-use Rattle.calls.specs.Codes.{request_codes, notice_codes, codes_sent, Replies, Coded, says_reply}
-use Rattle.calls.specs.Frame.{Arrived, goes_on, replied, frame_served}
+use Rattle.calls.specs.Codes.{request_codes, notice_codes, codes_sent, ReplyWith, Replies, Coded, says_reply}
+use Rattle.calls.specs.Frame.{Arrived, own, goes_on, replied, frame_served}
 use Rattle.calls.specs.Notice.{notice_frame, noticed, notice_served}
 use Rattle.calls.specs.Calls.{Call, make, frame, tick, allow, prohibit, notice, restart, short_output, refusal, make_served}
 use Rattle.calls.specs.Calls.{served, lent, handed, call, makes, stored, enter}
@@ -46,6 +50,34 @@ use Rattle.calls.proofs.Standing.{good_parts}
 use Rattle.calls.proofs.FrameEach.{such, frame_each}
 
 -- ---- over the definitions
+
+-- a reply of a machine is one of these
+replies : (code : ℕ) {codes : List ℕ} → some (eqb code) codes ≡ true → (requester from : ℕ) (tag : List ℕ) (level kind port : ℕ) (m : Machine)
+    (copies before : List ℕ)
+    → Replies codes before (over (reply_frame requester from tag (reply_pdu level kind code port (status_of m) copies)) before)
+unfolding status_of
+replies code h requester from tag level kind port m copies before =
+    record {
+      reply =
+          record {
+            code = code;
+            among = h;
+            requester = requester;
+            from = from;
+            tag = tag;
+            level = level;
+            kind = kind;
+            port = port;
+            status = status_of m;
+            copies = copies;
+            written = refl;
+          };
+      idle = idle m;
+    }
+  where
+    idle : (m : Machine) → (status_of m).side ≡ None → (status_of m).seconds ≡ 0
+    idle Inactive e = refl
+    idle (Active x) e = absurd (none-some x.side (sym e))
 
 abbrev Says : Sent → Type 0
 Says r = (before : List ℕ) → Coded r.answer before (over r.octets before)
@@ -56,7 +88,7 @@ unfolding replied sends
 reply_says s a whom code copies h before = go (goes_on a whom) _
   where
     is : Replies request_codes before (over (replied s a whom code copies).octets before)
-    is = record { code = code; among = h; requester = _; from = _; tag = _; level = _; kind = _; port = _; status = _; copies = copies; written = refl }
+    is = replies code h _ _ _ _ _ _ (own s a) copies before
 
     go : (b : Bool) (n : ℕ) → Coded (cond b RepliedForwarded Replied n) before (over (replied s a whom code copies).octets before)
     go true n = is
@@ -86,19 +118,7 @@ module _ (s : State) where
   notice_says : valid s ≡ true → notice_due s ≡ true → Says (notice_served s)
   unfolding notice_served noticed notice_frame sends
   notice_says v owing before =
-      record {
-        code = (first_owed s).notice;
-        among = owed_such s v owing (λ x. some (eqb x.notice) notice_codes) (owed_code s);
-        requester = _;
-        from = _;
-        tag = _;
-        level = _;
-        kind = _;
-        port = _;
-        status = _;
-        copies = [];
-        written = refl;
-      }
+      replies (first_owed s).notice (owed_such s v owing (λ x. some (eqb x.notice) notice_codes) (owed_code s)) _ _ _ _ _ _ Inactive [] before
 
   make_says : (clock : ℕ) (r : Reading) → Says (make_served s clock r)
   unfolding make_served leaves
@@ -144,19 +164,24 @@ none outcome reason line small e h = false≢true (sym e ∙ rw (low outcome rea
 module _ {before after : List ℕ} where
   wider : (codes : List ℕ) → every (λ code. some (eqb code) codes_sent) codes ≡ true → Replies codes before after
       → Replies codes_sent before after
-  wider codes e r =
+  wider codes e q =
+      let r : _ = q.reply in
       record {
-        code = r.code;
-        among = such (λ code. some (eqb code) codes_sent) r.code codes r.among e;
-        requester = r.requester;
-        from = r.from;
-        tag = r.tag;
-        level = r.level;
-        kind = r.kind;
-        port = r.port;
-        status = r.status;
-        copies = r.copies;
-        written = r.written;
+        reply =
+            record {
+              code = r.code;
+              among = such (λ code. some (eqb code) codes_sent) r.code codes r.among e;
+              requester = r.requester;
+              from = r.from;
+              tag = r.tag;
+              level = r.level;
+              kind = r.kind;
+              port = r.port;
+              status = r.status;
+              copies = r.copies;
+              written = r.written;
+            };
+        idle = q.idle;
       }
 
   coded_reply : (a : Answer) → says_reply (number_of a) ≡ true → Coded a before after → Replies codes_sent before after
@@ -172,12 +197,12 @@ module _ {before after : List ℕ} where
   coded_reply (Faulty line reason) h r = absurd (none 7 reason line (omega arith) refl h)
 
   -- Codes 3 and 255 are not sent.
-  pub never_3_or_255 : (r : Replies codes_sent before after) → (r.code ≡ 3 → ⊥) × (r.code ≡ 255 → ⊥)
+  pub never_3_or_255 : (r : ReplyWith codes_sent before after) → (r.code ≡ 3 → ⊥) × (r.code ≡ 255 → ⊥)
   unfolding some codes_sent request_codes notice_codes
   never_3_or_255 r = (λ e. false≢true (rw e at r.among), λ e. false≢true (rw e at r.among))
 
   -- The code stands behind the addresses, the tag, the type and five octets of the PDU.
-  pub code_place : {codes : List ℕ} (r : Replies codes before after) → get_or after (14 + length r.tag + 5) 0 ≡ r.code
+  pub code_place : {codes : List ℕ} (r : ReplyWith codes before after) → get_or after (14 + length r.tag + 5) 0 ≡ r.code
   unfolding reply_frame reply_pdu header
   code_place r =
       let flagged : ℕ = flags r.kind r.status r.copies in

@@ -1,5 +1,5 @@
 -- The machine (MACHINE): the response codes that are sent, as MACHINE-19 lists them, and in which answers.
-use Rattle.std.specs.Prelude.{◌≡◌, Bool, true, ◌||◌, List, [], ◌∷◌, ◌++◌, ℕ, ◌%◌, ◌^◌, eqb}
+use Rattle.std.specs.Prelude.{◌≡◌, Bool, true, ◌||◌, List, [], ◌∷◌, ◌++◌, ℕ, ◌%◌, ◌^◌, eqb, None}
 use Rattle.octets.specs.Octets.{over}
 use Rattle.octets.specs.Lists.{some}
 use Rattle.codec.specs.declared.Status.{Status}
@@ -30,7 +30,7 @@ unfoldable pub codes_sent : List ℕ
 codes_sent = request_codes ++ notice_codes
 
 -- the front of an output, written over with a reply that has one of these codes, whatever else it says
-pub record Replies (codes before after : List ℕ) : Type 0 where
+pub record ReplyWith (codes before after : List ℕ) : Type 0 where
   pub code : ℕ
   pub among : some (eqb code) codes ≡ true
   pub requester : ℕ
@@ -42,6 +42,11 @@ pub record Replies (codes before after : List ℕ) : Type 0 where
   pub status : Status
   pub copies : List ℕ
   pub written : after ≡ over (reply_frame requester from tag (reply_pdu level kind code port status copies)) before
+
+-- REPLY-12: and that gives an inactive machine, which has no side, 0 seconds
+pub record Replies (codes before after : List ℕ) : Type 0 where
+  pub reply : ReplyWith codes before after
+  pub idle : reply.status.side ≡ None → reply.status.seconds ≡ 0
 
 -- what an answer says of the output: a reply to a request, or a notice; no other answer is a reply
 abbrev pub Coded : Answer → List ℕ → List ℕ → Type 0

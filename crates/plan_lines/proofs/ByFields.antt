@@ -65,47 +65,45 @@ module _ (number kind address : List ℕ) where
   unfolding as_port field said
   port_no_kind h = by_test (is_number number) (λ t. simp (t, no_word kind port_kinds h)) (λ t. simp t)
 
-  module _ {k : ℕ} (ek : found (listed port_kinds kind) ≡ Some k) where
-    pub port_no_number : read_number number ≡ None → None ≡ said (as_port ([] ∷ number ∷ kind ∷ address ∷ []))
+  pub port_no_number : read_number number ≡ None → None ≡ said (as_port ([] ∷ number ∷ kind ∷ address ∷ []))
+  unfolding as_port field said
+  port_no_number h = simp (no_number number h)
+
+  module _ {n : ℕ} (en : read_number number ≡ Some n) {k : ℕ} (ek : found (listed port_kinds kind) ≡ Some k) where
+    pub port_no_address : read_address address ≡ None → None ≡ said (as_port ([] ∷ number ∷ kind ∷ address ∷ []))
     unfolding as_port field said
-    port_no_number h = simp (no_number number h)
+    port_no_address h = simp ((a_number number en).0, (a_word kind port_kinds ek).0, no_address address h)
 
-    module _ {n : ℕ} (en : read_number number ≡ Some n) where
-      pub port_no_address : read_address address ≡ None → None ≡ said (as_port ([] ∷ number ∷ kind ∷ address ∷ []))
-      unfolding as_port field said
-      port_no_address h = simp ((a_number number en).0, (a_word kind port_kinds ek).0, no_address address h)
-
-      pub port_read : {a : ℕ} → read_address address ≡ Some a
-          → Some (OfPort n k a) ≡ said (as_port ([] ∷ number ∷ kind ∷ address ∷ []))
-      unfolding as_port field said
-      port_read h =
-          let p : _ = a_number number en in
-          let q : _ = a_word kind port_kinds ek in
-          let r : _ = an_address address h in
-          rw (p.1, q.1, r.1) (simp (p.0, q.0, r.0))
+    pub port_read : {a : ℕ} → read_address address ≡ Some a
+        → Some (OfPort n k a) ≡ said (as_port ([] ∷ number ∷ kind ∷ address ∷ []))
+    unfolding as_port field said
+    port_read h =
+        let p : _ = a_number number en in
+        let q : _ = a_word kind port_kinds ek in
+        let r : _ = an_address address h in
+        rw (p.1, q.1, r.1) (simp (p.0, q.0, r.0))
 
 module _ (flow kind level : List ℕ) where
   pub mp_no_kind : found (listed mp_kinds kind) ≡ None → None ≡ said (as_mp ([] ∷ flow ∷ kind ∷ level ∷ []))
   unfolding as_mp field said
   mp_no_kind h = by_test (is_number flow) (λ t. simp (t, no_word kind mp_kinds h)) (λ t. simp t)
 
-  module _ {k : ℕ} (ek : found (listed mp_kinds kind) ≡ Some k) where
-    pub mp_no_flow : read_number flow ≡ None → None ≡ said (as_mp ([] ∷ flow ∷ kind ∷ level ∷ []))
+  pub mp_no_flow : read_number flow ≡ None → None ≡ said (as_mp ([] ∷ flow ∷ kind ∷ level ∷ []))
+  unfolding as_mp field said
+  mp_no_flow h = simp (no_number flow h)
+
+  module _ {n : ℕ} (en : read_number flow ≡ Some n) {k : ℕ} (ek : found (listed mp_kinds kind) ≡ Some k) where
+    pub mp_no_level : read_number level ≡ None → None ≡ said (as_mp ([] ∷ flow ∷ kind ∷ level ∷ []))
     unfolding as_mp field said
-    mp_no_flow h = simp (no_number flow h)
+    mp_no_level h = simp ((a_number flow en).0, (a_word kind mp_kinds ek).0, no_number level h)
 
-    module _ {n : ℕ} (en : read_number flow ≡ Some n) where
-      pub mp_no_level : read_number level ≡ None → None ≡ said (as_mp ([] ∷ flow ∷ kind ∷ level ∷ []))
-      unfolding as_mp field said
-      mp_no_level h = simp ((a_number flow en).0, (a_word kind mp_kinds ek).0, no_number level h)
-
-      pub mp_read : {v : ℕ} → read_number level ≡ Some v → Some (OfMp n k v) ≡ said (as_mp ([] ∷ flow ∷ kind ∷ level ∷ []))
-      unfolding as_mp field said
-      mp_read h =
-          let p : _ = a_number flow en in
-          let q : _ = a_word kind mp_kinds ek in
-          let r : _ = a_number level h in
-          rw (p.1, q.1, r.1) (simp (p.0, q.0, r.0))
+    pub mp_read : {v : ℕ} → read_number level ≡ Some v → Some (OfMp n k v) ≡ said (as_mp ([] ∷ flow ∷ kind ∷ level ∷ []))
+    unfolding as_mp field said
+    mp_read h =
+        let p : _ = a_number flow en in
+        let q : _ = a_word kind mp_kinds ek in
+        let r : _ = a_number level h in
+        rw (p.1, q.1, r.1) (simp (p.0, q.0, r.0))
 
 module _ (number port kind vid : List ℕ) where
   pub flow_no_kind : found (listed flow_kinds kind) ≡ None
@@ -116,28 +114,27 @@ module _ (number port kind vid : List ℕ) where
       (λ t. by_test (is_number port) (λ u. simp (t, u, no_word kind flow_kinds h)) (λ u. simp (t, u)))
       (λ t. simp t)
 
-  module _ {k : ℕ} (ek : found (listed flow_kinds kind) ≡ Some k) where
-    pub flow_no_number : read_number number ≡ None → None ≡ said (as_flow ([] ∷ number ∷ port ∷ kind ∷ vid ∷ []))
+  pub flow_no_number : read_number number ≡ None → None ≡ said (as_flow ([] ∷ number ∷ port ∷ kind ∷ vid ∷ []))
+  unfolding as_flow field said
+  flow_no_number h = simp (no_number number h)
+
+  module _ {n : ℕ} (en : read_number number ≡ Some n) where
+    pub flow_no_port : read_number port ≡ None → None ≡ said (as_flow ([] ∷ number ∷ port ∷ kind ∷ vid ∷ []))
     unfolding as_flow field said
-    flow_no_number h = simp (no_number number h)
+    flow_no_port h = simp ((a_number number en).0, no_number port h)
 
-    module _ {n : ℕ} (en : read_number number ≡ Some n) where
-      pub flow_no_port : read_number port ≡ None → None ≡ said (as_flow ([] ∷ number ∷ port ∷ kind ∷ vid ∷ []))
+    module _ {p : ℕ} (ep : read_number port ≡ Some p) {k : ℕ} (ek : found (listed flow_kinds kind) ≡ Some k) where
+      pub flow_no_vid : read_number vid ≡ None → None ≡ said (as_flow ([] ∷ number ∷ port ∷ kind ∷ vid ∷ []))
       unfolding as_flow field said
-      flow_no_port h = simp ((a_number number en).0, no_number port h)
+      flow_no_vid h =
+          simp ((a_number number en).0, (a_number port ep).0, (a_word kind flow_kinds ek).0, no_number vid h)
 
-      module _ {p : ℕ} (ep : read_number port ≡ Some p) where
-        pub flow_no_vid : read_number vid ≡ None → None ≡ said (as_flow ([] ∷ number ∷ port ∷ kind ∷ vid ∷ []))
-        unfolding as_flow field said
-        flow_no_vid h =
-            simp ((a_number number en).0, (a_number port ep).0, (a_word kind flow_kinds ek).0, no_number vid h)
-
-        pub flow_read : {v : ℕ} → read_number vid ≡ Some v
-            → Some (OfFlow n p k v) ≡ said (as_flow ([] ∷ number ∷ port ∷ kind ∷ vid ∷ []))
-        unfolding as_flow field said
-        flow_read h =
-            let s : _ = a_number number en in
-            let t : _ = a_number port ep in
-            let u : _ = a_word kind flow_kinds ek in
-            let w : _ = a_number vid h in
-            rw (s.1, t.1, u.1, w.1) (simp (s.0, t.0, u.0, w.0))
+      pub flow_read : {v : ℕ} → read_number vid ≡ Some v
+          → Some (OfFlow n p k v) ≡ said (as_flow ([] ∷ number ∷ port ∷ kind ∷ vid ∷ []))
+      unfolding as_flow field said
+      flow_read h =
+          let s : _ = a_number number en in
+          let t : _ = a_number port ep in
+          let u : _ = a_word kind flow_kinds ek in
+          let w : _ = a_number vid h in
+          rw (s.1, t.1, u.1, w.1) (simp (s.0, t.0, u.0, w.0))

@@ -1,4 +1,6 @@
 pub mod MapLaws
+pub mod SweptLaws
+pub mod SweptExamples
 pub mod RowOctets
 pub mod PlaceLaws
 pub mod Steps

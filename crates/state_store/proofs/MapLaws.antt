@@ -3,35 +3,46 @@ use mathlib.Core.Path.{◌≡◌, refl, sym, ◌∙◌}
 use mathlib.Core.List.{List, ◌++◌, append_assoc}
 use Prim.Native.Nat.{ℕ, zero, suc, ◌+◌, ◌-◌, ◌*◌, ◌<◌, ◌≤◌}
 use native.Mathlib.Omega.{arith}
-use lib.ListN.{length, take, drop, length-append, length-drop, take-append-drop}
+use lib.ListN.{length, take, drop, length-append, take-append-drop}
 use lib.Seq.{length-take-le, take_at, drop_at, drop-drop}
 use borrow.Author.Tests.{eq-eqb, ne_eqb}
-use Rattle.octets.specs.Octets.{low_number}
+use Rattle.octets.specs.Octets.{low_number, splice}
+use Rattle.octets.proofs.Over.{length_splice}
 use Rattle.machine.specs.declared.Session.{Session}
 use Rattle.state.specs.Image.{session_row, session_in}
 use Rattle.state.proofs.RowLaws.{session_length}
 use Rattle.state_store.specs.StoredRows.{map_rows, row_put}
 
--- a row put at `at`: what stands before its end, and behind it
+-- octets w written at `at`: what stands before their end, and behind it
+module _ (at end : ℕ) (w b : List ℕ) (e : end ≡ at + length w) (fit : end ≤ length b) where
+  front_length : length (take at b ++ w) ≡ end
+  front_length = simp length-append (omega (arith, length-take-le at b (omega arith)))
+
+  parts : splice at w b ≡ (take at b ++ w) ++ drop end b
+  parts = rw (e, drop-drop, append_assoc)
+
+  pub splice_take : take end (splice at w b) ≡ take at b ++ w
+  splice_take = rw parts (take_at (take at b ++ w) (drop end b) end front_length)
+
+  pub splice_drop : drop end (splice at w b) ≡ drop end b
+  splice_drop = rw parts (drop_at (take at b ++ w) (drop end b) end front_length)
+
+-- a row put at `at`
 module _ (at : ℕ) (x : Session) (b : List ℕ) (fit : at + 32 ≤ length b) where
-  abbrev front : List ℕ
-  front = take at b ++ session_row x
+  row_end : at + 32 ≡ at + length (session_row x)
+  row_end = rw (session_length x)
 
-  front_length : length front ≡ at + 32
-  front_length = simp (length-append, session_length x, length-take-le at b (omega arith))
-
-  put_parts : row_put at x b ≡ front ++ drop (at + 32) b
+  put_take : take (at + 32) (row_put at x b) ≡ take at b ++ session_row x
   unfolding row_put
-  put_parts = rw (session_length x, drop-drop, append_assoc)
-
-  put_take : take (at + 32) (row_put at x b) ≡ front
-  put_take = rw put_parts (take_at front (drop (at + 32) b) (at + 32) front_length)
+  put_take = splice_take at (at + 32) (session_row x) b row_end fit
 
   put_drop : drop (at + 32) (row_put at x b) ≡ drop (at + 32) b
-  put_drop = rw put_parts (drop_at front (drop (at + 32) b) (at + 32) front_length)
+  unfolding row_put
+  put_drop = splice_drop at (at + 32) (session_row x) b row_end fit
 
   pub put_length : length (row_put at x b) ≡ length b
-  put_length = rw (put_parts, length-append, front_length) (omega (arith, length-drop (at + 32) b))
+  unfolding row_put
+  put_length = length_splice at (session_row x) b (omega (arith, row_end))
 
 module _ (f : Session → Session) where
   -- b with the rows from `at` on, at most n, put through f

@@ -1,9 +1,9 @@
 -- How the code rewrites the lent octets. The laws in proofs/ say what each of these makes of a state's image.
-use Rattle.std.specs.Prelude.{List, ◌++◌, Option, None, Some, cond, ℕ, zero, suc, ◌+◌, take, drop, eqb, ltb}
+use Rattle.std.specs.Prelude.{◌≡◌, List, [], ◌∷◌, ◌++◌, Option, None, Some, cond, ℕ, zero, suc, ◌+◌, ◌^◌, ◌<◌, take, drop, eqb, ltb}
 use Rattle.octets.specs.Octets.{low_number, splice, moved_up, moved_down}
 use Rattle.machine.specs.declared.Session.{Session}
 use Rattle.machine.specs.Machine.{key_of}
-use Rattle.state.specs.Image.{zeros, session_row, session_in}
+use Rattle.state.specs.Image.{zeros, session_row, session_in, state_of}
 use Rattle.state.specs.Rows.{row_found, session_at}
 
 -- at most n rows at the head of l, each session put through f
@@ -14,6 +14,35 @@ map_rows f (suc n) l = cond (eqb (low_number 8 l) 0) l (session_row (f (session_
 -- b with every session put through f
 unfoldable pub sessions_mapped : (Session → Session) → List ℕ → List ℕ
 sessions_mapped f b = take 1536 b ++ map_rows f 16 (drop 1536 b)
+
+-- a session whose numbers fit their types in the code
+pub record InTypes (x : Session) : Type 0 where
+  pub flow_in : x.flow < 2 ^ 16
+  pub source_in : x.source < 2 ^ 64
+  pub level_in : x.level < 2 ^ 8
+  pub side_in : x.side < 2 ^ 8
+  pub taglen_in : x.taglen < 2 ^ 8
+  pub tag_in : x.tag < 2 ^ 64
+  pub left_in : x.left < 2 ^ 32
+  pub notice_in : x.notice < 2 ^ 8
+
+-- what a step says of some sessions, in their order: one session for each
+abbrev pub Stepped : (Session → Session → Type 0) → List Session → List Session → Type 0
+Stepped says [] [] = Unit {0}
+Stepped says [] (y ∷ ys) = ⊥
+Stepped says (x ∷ xs) [] = ⊥
+Stepped says (x ∷ xs) (y ∷ ys) = (InTypes y × says x y) × Stepped says xs ys
+
+-- the rows at the head of l, what is behind the key of each written over with one of these sessions
+unfoldable pub rests_written : List Session → List ℕ → List ℕ
+rests_written [] l = l
+rests_written (y ∷ ys) l = take 8 l ++ drop 8 (session_row y) ++ rests_written ys (drop 32 l)
+
+-- b put through a step, whatever that says of each session: what it answered is written, and each row keeps its key
+pub record Swept (says : Session → Session → Type 0) (before after : List ℕ) : Type 0 where
+  pub answers : List Session
+  pub stepped : Stepped says (state_of before).sessions answers
+  pub written : after ≡ take 1536 before ++ rests_written answers (drop 1536 before)
 
 -- where a key belongs, of n rows, the first of which stands at `at`: the first row that is empty or has no lower key
 unfoldable pub place_row : ℕ → ℕ → ℕ → List ℕ → ℕ

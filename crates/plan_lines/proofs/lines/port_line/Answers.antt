@@ -7,12 +7,12 @@ returns-in_err-kind c = c.from_residual.ensures ∙ port_no_kind _ _ _ (sym c.po
 
 pub returns-in_err-number : goal.returns-in_err-number
 returns-in_err-number c =
-    c.from_residual-in_err-number.ensures ∙ port_no_number _ _ _ (sym c.port_kind.ensures ∙ c.in_ok-kind.was) (sym c.number_of.ensures ∙ c.in_err-number.was)
+    c.from_residual-in_err-number.ensures ∙ port_no_number _ _ _ (sym c.number_of.ensures ∙ c.in_err-number.was)
 
 pub returns-in_err-address : goal.returns-in_err-address
 returns-in_err-address c =
-    c.from_residual-in_err-address.ensures ∙ port_no_address _ _ _ (sym c.port_kind.ensures ∙ c.in_ok-kind.was) (sym c.number_of.ensures ∙ c.in_ok-number.was) (sym c.address_of.ensures ∙ c.in_err-address.was)
+    c.from_residual-in_err-address.ensures ∙ port_no_address _ _ _ (sym c.number_of.ensures ∙ c.in_ok-number.was) (sym c.port_kind.ensures ∙ c.in_ok-kind.was) (sym c.address_of.ensures ∙ c.in_err-address.was)
 
 pub returns : goal.returns
 returns c =
-    port_read _ _ _ (sym c.port_kind.ensures ∙ c.in_ok-kind.was) (sym c.number_of.ensures ∙ c.in_ok-number.was) (sym c.address_of.ensures ∙ c.in_ok-address.was)
+    port_read _ _ _ (sym c.number_of.ensures ∙ c.in_ok-number.was) (sym c.port_kind.ensures ∙ c.in_ok-kind.was) (sym c.address_of.ensures ∙ c.in_ok-address.was)
